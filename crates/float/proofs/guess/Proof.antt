@@ -1,0 +1,37 @@
+use Prim.Native.Nat.{ℕ, _/_, _≤_, _^_}
+use native.Mathlib.Omega.{arith}
+use lib.Dec.{T, leb, le→leb}
+use lib.Ieee.{binary64, inFloat}
+use Rattle.float.proofs.Special.{no-nan}
+use borrow.Author.Needs.{needs}
+use Rattle.float.proofs.guess.Statement.{statement}
+use Rattle.float.proofs.guess.Tie as tie
+use Rattle.float.proofs.guess.Reads as reads
+use Rattle.float.proofs.guess.Lts as lts
+
+int-to-float-x : tie.Need-int-to-float-x
+unfolding inFloat
+int-to-float-x c = le→leb (c .before .args .m / 2) (2 ^ 53) (omega arith)
+
+returns : tie.Need-returns
+returns c = search needs
+
+float-to-bits-b : tie.Need-float-to-bits-b
+float-to-bits-b c = no-nan _ (c .if1 .left)
+
+add-result : tie.Need-add-result
+add-result c = search needs
+
+mul-result : tie.Need-mul-result
+mul-result c = search needs
+
+sub-result : tie.Need-sub-result
+sub-result c = search needs
+
+returns-2 : tie.Need-returns-2
+returns-2 c = search needs
+
+pub guess-spec : {M : Type 1} → statement M
+guess-spec =
+    tie.close
+    (tie.spec int-to-float-x returns float-to-bits-b add-result mul-result sub-result returns-2)

@@ -1,0 +1,209 @@
+// IEEE 754's square root of an f64, by integer arithmetic alone.
+ghost use mathlib.Core.Path.{_≡_};
+ghost use Prim.Native.Nat.{ℕ, _+_, _-_, _*_, _/_, _^_, _≤_, _<_};
+ghost use mathlib.Core.Bool.{false};
+ghost use lib.Ieee.{binary64, ofBits, odd};
+ghost use Rattle.float.specs.Root.{root};
+ghost use Rattle.float.specs.Parts.{Unpacked, Lifted, Even, Rooted, Squared};
+
+// The number m * 2^e.
+pub struct Scaled {
+    pub m: u64,
+    pub e: u64,
+}
+
+// The magnitude of a finite value from its bits without a sign, in units of the smallest value.
+fn unpack(b: u64) -> Scaled
+    requires { ⌜ 0 < b ⌝ }
+    requires { ⌜ b < 0x7ff0_0000_0000_0000 ⌝ }
+    ensures { λ r. ⌜ Unpacked b (r .m) (r .e) ⌝ }
+{
+    if b < 0x10_0000_0000_0000 {
+        Scaled { m: b, e: 0 }
+    } else {
+        Scaled {
+            m: b % 0x10_0000_0000_0000 + 0x10_0000_0000_0000,
+            e: b / 0x10_0000_0000_0000 - 1,
+        }
+    }
+}
+
+// m * 2^e units, times 2^1074, with an m of 53 digits.
+fn lift(m: u64, e: u64) -> Scaled
+    requires { ⌜ 0 < m ⌝ }
+    requires { ⌜ m < 2 ^ 53 ⌝ }
+    requires { ⌜ e < 2046 ⌝ }
+    ensures { λ r. ⌜ Lifted m e (r .m) (r .e) ⌝ }
+{
+    let z = u64::leading_zeros(m) as u64 - 11;
+    Scaled {
+        m: m << z,
+        e: e + 1074 - z,
+    }
+}
+
+// The same number with an even exponent.
+fn even(m: u64, e: u64) -> Scaled
+    requires { ⌜ 2 ^ 52 ≤ m ⌝ }
+    requires { ⌜ m < 2 ^ 53 ⌝ }
+    requires { ⌜ 1022 ≤ e ⌝ }
+    requires { ⌜ e < 3120 ⌝ }
+    ensures { λ r. ⌜ Even m e (r .m) (r .e) ⌝ }
+{
+    if e % 2 == 1 {
+        Scaled { m: 2 * m, e: e - 1 }
+    } else {
+        Scaled { m: m, e: e }
+    }
+}
+
+// The whole part of the root of m * 2^54, a binary digit a turn. p is the place of the last digit found, and
+// root * root + rest * p stays m * 2^54.
+fn digits(m: u64) -> u64
+    requires { ⌜ m < 2 ^ 54 ⌝ }
+    ensures { λ r. ⌜ Rooted m r ⌝ }
+{
+    let mut root: u64 = 0;
+    let mut rest: u64 = m;
+    let mut p: u64 = 0x40_0000_0000_0000;
+    while 1 < p {
+        p = p / 2;
+        rest = rest * 2;
+        let t = root * 2 + p;
+        if t <= rest {
+            rest = rest - t;
+            root = root + p;
+        }
+    }
+    root
+}
+
+// hi * 2^54 + lo.
+pub struct Wide {
+    pub hi: u64,
+    pub lo: u64,
+}
+
+// r * r, in two parts.
+fn square(r: u64) -> Wide
+    requires { ⌜ r < 2 ^ 54 ⌝ }
+    ensures { λ w. ⌜ Squared r (w .hi) (w .lo) ⌝ }
+{
+    let a = r / 0x800_0000;
+    let b = r % 0x800_0000;
+    let c = a * b;
+    let low = c % 0x400_0000 * 0x1000_0000 + b * b;
+    Wide {
+        hi: a * a + c / 0x400_0000 + low / 0x40_0000_0000_0000,
+        lo: low % 0x40_0000_0000_0000,
+    }
+}
+
+// A number near the root of m * 2^54 and mostly a little below: nothing is promised of it but its size.
+fn guess(m: u64) -> u64
+    requires { ⌜ m < 2 ^ 54 ⌝ }
+    ensures { λ r. ⌜ r < 2 ^ 54 ⌝ }
+{
+    let x = (m / 2) as f64 * 0.0000000000000004440892098500626;
+    let h = 0.5 * x;
+    let y0 = ((x * -0.019050381711095046 + 0.1946854613143936) * x - 0.7388624963523053) * x
+        + 1.556186731857809;
+    let y1 = y0 * (1.5 - h * y0 * y0);
+    let y2 = y1 * (1.5 - h * y1 * y1);
+    let s = x * y2;
+    let t = s + (x - s * s) * (0.5 * y2);
+    if t != t {
+        return 0;
+    }
+    let b = f64::to_bits(t);
+    (b % 0x10_0000_0000_0000 + 0x10_0000_0000_0000) * 2 - 2
+}
+
+// From a number r at or below the root up to it; d is what is left of m * 2^54 above r * r.
+fn climb(m: u64, from: u64, left: u64) -> u64
+    requires { ⌜ m < 2 ^ 54 ⌝ }
+    requires { ⌜ from * from + left ≡ m * 2 ^ 54 ⌝ }
+    ensures { λ r. ⌜ Rooted m r ⌝ }
+{
+    let mut r = from;
+    let mut d = left;
+    while 2 * r < d {
+        d = d - (2 * r + 1);
+        r = r + 1;
+    }
+    r
+}
+
+// The same in one leap, where it is short: q steps up at once, and what is left is mostly less than a step.
+fn leap(m: u64, r: u64, d: u64) -> u64
+    requires { ⌜ m < 2 ^ 54 ⌝ }
+    requires { ⌜ r * r + d ≡ m * 2 ^ 54 ⌝ }
+    ensures { λ r. ⌜ Rooted m r ⌝ }
+{
+    if 0x80_0000_0000_0000 <= r {
+        return climb(m, r, d);
+    }
+    let c = 2 * r + 16;
+    let q = d / c;
+    if 16 < q {
+        return climb(m, r, d);
+    }
+    climb(m, r + q, d % c + q * (16 - q))
+}
+
+// The whole part of the root of m * 2^54: from a guess where its square is found at most that and near, else digit by digit.
+fn quick(m: u64) -> u64
+    requires { ⌜ m < 2 ^ 54 ⌝ }
+    ensures { λ r. ⌜ Rooted m r ⌝ }
+{
+    let g = guess(m);
+    let w = square(g);
+    if m < w.hi {
+        return digits(m);
+    }
+    let k = m - w.hi;
+    if 512 <= k {
+        return digits(m);
+    }
+    let all = k * 0x40_0000_0000_0000;
+    if all < w.lo {
+        return digits(m);
+    }
+    leap(m, g, all - w.lo)
+}
+
+// The root of the value whose bits are b, finite and above zero.
+fn positive(b: u64) -> f64
+    requires { ⌜ 0 < b ⌝ }
+    requires { ⌜ b < 0x7ff0_0000_0000_0000 ⌝ }
+    ensures { λ r. ⌜ r ≡ root binary64 (ofBits binary64 b) ⌝ }
+{
+    let u = unpack(b);
+    let l = lift(u.m, u.e);
+    let s = even(l.m, l.e);
+    let r = quick(s.m);
+    f64::from_bits((s.e / 2 - 26) * 0x10_0000_0000_0000 + (r + 1) / 2)
+}
+
+// The square root of x, rounded to nearest, of two as near the even one.
+pub fn sqrt(x: f64) -> f64
+    ensures { λ r. ⌜ r ≡ root binary64 x ⌝ }
+{
+    if x != x {
+        return x;
+    }
+    let b = f64::to_bits(x);
+    if b == 0 {
+        return x;
+    }
+    if b == 0x7ff0_0000_0000_0000 {
+        return x;
+    }
+    if b == 0x8000_0000_0000_0000 {
+        return x;
+    }
+    if 0x8000_0000_0000_0000 < b {
+        return 0.0 / 0.0;
+    }
+    positive(b)
+}
