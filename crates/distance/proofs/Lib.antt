@@ -1,0 +1,4 @@
+-- Laws of the distance.
+pub mod Size
+pub mod Symmetric
+pub mod Bound
