@@ -1,15 +1,15 @@
 -- Sums and differences of floats that are whole numbers. A sum of two whole numbers is that whole number, rounded once (`add-like`, `add-fall`, `add-under`, `add-rise`,
 -- `add-sink`); whole numbers of size up to 2 ^ 53 are held, so their sums and differences of that size are exact (`whole-add`, `whole-sub`, `whole-difference`). A difference of equal numbers is
 -- +0.0, and -0.0 comes only from two negative zeros. `add-minus-minus` and `add-plus-minus` are the changes of an exit weight by a move. Assumes nothing.
-use mathlib.Core.Path.{_≡_, refl, sym, ap, _∙_, subst}
-use Prim.Native.Nat.{ℕ, zero, suc, _+_, _-_, _*_, _^_, _≤_, _<_}
-use native.Mathlib.Nat.{mul-pos, zero-lt-suc, mul-one, mul-assoc, mul-comm, mul-right-comm, add-mul, mul-le-mul-right, not-le-of-lt, mul-lt-mul-of-pos-right, mul-sub}
+use mathlib.Core.Path.{_≡_, refl, sym, ap, _∙_}
+use Prim.Native.Nat.{ℕ, suc, _+_, _-_, _*_, _^_, _≤_, _<_}
+use native.Mathlib.Nat.{mul-pos, zero-lt-suc, mul-one, mul-assoc, mul-comm, add-mul, mul-le-mul-right, not-le-of-lt, mul-lt-mul-of-pos-right, mul-sub}
 use native.Mathlib.Decide.{decLe}
 use native.Mathlib.Omega.{arith}
-use mathlib.Core.Bool.{Bool, true, false, not, _&&_, cond}
-use lib.IntN.{ℤ, pos, negsuc}
+use mathlib.Core.Bool.{Bool, true, false, not, cond}
+use lib.IntN.{pos, negsuc}
 use lib.Dec.{T, ltb, leb, ltb→lt, lt→ltb, nltb→le, leb→le, nleb→lt}
-use lib.Ieee.{Float, nan, inf, fin, Format, binary64, prec, up, down, minus, round, sum, add, sub, neg, ofInt, ofBits}
+use lib.Ieee.{Float, nan, inf, fin, Format, binary64, up, down, minus, round, sum, add, sub, neg, ofInt, ofBits}
 use lib.Ieee.Fits.{down-pos}
 use lib.Ieee.Exact.{HasValue}
 use lib.Ieee.Scale.{round-same}

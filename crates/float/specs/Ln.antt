@@ -1,6 +1,6 @@
 -- Document 01's stand-in for ln, each operation rounded once, and plogp. Definitions only.
 use Prim.Native.Nat.{ℕ, zero, suc, _+_, _-_, _*_, _^_}
-use mathlib.Core.Bool.{Bool, true, false, cond}
+use mathlib.Core.Bool.{true, false, cond}
 use lib.IntN.{ℤ, pos, _+ℤ_}
 use lib.Dec.{ltb}
 use lib.Ieee.{Float, nan, inf, fin, binary64, size, minus, lt, ofInt, ofBits}

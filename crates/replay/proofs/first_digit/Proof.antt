@@ -1,8 +1,8 @@
 -- `replay::first_digit` meets its contract: the first digit after each byte passed is that after `at`. Assumes nothing.
-use mathlib.Core.Path.{_≡_, refl, sym, ap, _∙_}
-use Prim.Native.Nat.{ℕ, _+_, _-_}
+use mathlib.Core.Path.{_≡_, sym, _∙_}
+use Prim.Native.Nat.{_-_}
 use native.Mathlib.Omega.{arith}
-use lib.ListN.{length, drop, getD}
+use lib.ListN.{length}
 use borrow.Author.Needs.{needs}
 use Rattle.replay.specs.Numbers.{start}
 use Rattle.replay.proofs.Digits.{before-on, before-stop, before-end}

@@ -1,12 +1,11 @@
-use mathlib.Core.Path.{_≡_, refl, ap, _∙_}
-use Prim.Native.Nat.{ℕ, _+_, _*_, _^_, _<_}
+-- `float::count_up` meets its contract: r * r + d stays m * 2 ^ 54, and d falls. Assumes nothing.
+use mathlib.Core.Path.{_≡_}
+use Prim.Native.Nat.{_+_, _*_, _^_}
 use native.Mathlib.Omega.{arith}
-use Rattle.float.proofs.Near.{short, ends}
+use Rattle.float.proofs.Correction.{short, ends}
 use borrow.Author.Needs.{needs}
-use Rattle.float.proofs.climb.Statement.{statement}
-use Rattle.float.proofs.climb.Tie as tie
-use Rattle.float.proofs.climb.Reads as reads
-use Rattle.float.proofs.climb.Lts as lts
+use Rattle.float.proofs.count_up.Statement.{statement}
+use Rattle.float.proofs.count_up.Tie as tie
 
 abbrev Inv-loop : tie.InvT-loop
 Inv-loop m from left r₀ d₀ r d = r * r + d ≡ m * 2 ^ 54
@@ -41,8 +40,8 @@ loop-again c = search needs
 returns : tie.Need-returns Inv-loop μ-loop
 returns c = ends _ _ _ (c .before .before .pre .0) (c .before .loop .inv) (c .loop-test .left)
 
-pub climb-spec : {M : Type 1} → statement M
-climb-spec =
+pub count-up-spec : {M : Type 1} → statement M
+count-up-spec =
     tie.close
     (tie.spec
     Inv-loop

@@ -1,5 +1,5 @@
--- The root from a number near it: its square in two parts, and the step to the next. Assumes nothing.
-use mathlib.Core.Path.{_≡_, refl, sym, ap, _∙_}
+-- The root from a number at or below it: the square in two parts (`parts`), q steps at once (`steps`), and where to stop (`ends`). Assumes nothing.
+use mathlib.Core.Path.{_≡_, refl, ap, _∙_}
 use mathlib.Core.Bool.{Bool, true, false}
 use Prim.Native.Nat.{ℕ, _+_, _-_, _*_, _/_, _%_, _^_, _≤_, _<_}
 use native.Mathlib.Nat.{mul-le-mul, div-add-mod', mod-lt}
@@ -37,20 +37,20 @@ pub ends : (m r d : ℕ) → m < 2 ^ 54 → r * r + d ≡ m * 2 ^ 54 → d ≤ 2
 ends m r d small e last = record { below = omega arith; above = omega arith; short = short m r d small e }
 
 -- q steps at once
-pub leaps : (r d q p n : ℕ) → p + q ≡ 16 → q ≡ d / (2 * r + 16) → r * r + d ≡ n → (r + q) * (r + q) + (d % (2 * r + 16) + q * p) ≡ n
-leaps r d q p n e f h = over (d % (2 * r + 16)) (q * (2 * r + 16)) refl (ap (λ (x : ℕ). x * (2 * r + 16) + d % (2 * r + 16)) f ∙ div-add-mod' d (2 * r + 16)) (ap (λ (x : ℕ). q * x) e)
+pub steps : (r d q p n : ℕ) → p + q ≡ 16 → q ≡ d / (2 * r + 16) → r * r + d ≡ n → (r + q) * (r + q) + (d % (2 * r + 16) + q * p) ≡ n
+steps r d q p n e f h = over (d % (2 * r + 16)) (q * (2 * r + 16)) refl (ap (λ (x : ℕ). x * (2 * r + 16) + d % (2 * r + 16)) f ∙ div-add-mod' d (2 * r + 16)) (ap (λ (x : ℕ). q * x) e)
   where
     over : (a b : ℕ) → b ≡ q * (2 * r + 16) → b + a ≡ d → q * (p + q) ≡ q * 16 → (r + q) * (r + q) + (a + q * p) ≡ n
     over a b g k m = omega arith
 
-pub leap-small : (q : ℕ) → q ≤ 16 → q * (16 - q) ≤ 256
-leap-small q h = mul-le-mul {n₁ = q} {m₁ = 16 - q} {n₂ = 16} {m₂ = 16} h (under q)
+pub step-small : (q : ℕ) → q ≤ 16 → q * (16 - q) ≤ 256
+step-small q h = mul-le-mul {n₁ = q} {m₁ = 16 - q} {n₂ = 16} {m₂ = 16} h (under q)
   where
     under : (q : ℕ) → 16 - q ≤ 16
     under q = omega arith
 
-pub leap-left : (r d : ℕ) → d % (2 * r + 16) < 2 * r + 16
-leap-left r d = mod-lt d (some r)
+pub step-left : (r d : ℕ) → d % (2 * r + 16) < 2 * r + 16
+step-left r d = mod-lt d (some r)
   where
     some : (r : ℕ) → 0 < 2 * r + 16
     some r = omega arith

@@ -1,13 +1,12 @@
-use Prim.Native.Nat.{ℕ, _/_, _≤_, _^_}
+-- `float::estimate` is safe, and its answer short. Assumes nothing.
+use Prim.Native.Nat.{_/_, _^_}
 use native.Mathlib.Omega.{arith}
-use lib.Dec.{T, leb, le→leb}
-use lib.Ieee.{binary64, inFloat}
+use lib.Dec.{le→leb}
+use lib.Ieee.{inFloat}
 use Rattle.float.proofs.Special.{no-nan}
 use borrow.Author.Needs.{needs}
-use Rattle.float.proofs.guess.Statement.{statement}
-use Rattle.float.proofs.guess.Tie as tie
-use Rattle.float.proofs.guess.Reads as reads
-use Rattle.float.proofs.guess.Lts as lts
+use Rattle.float.proofs.estimate.Statement.{statement}
+use Rattle.float.proofs.estimate.Tie as tie
 
 int-to-float-x : tie.Need-int-to-float-x
 unfolding inFloat
@@ -31,7 +30,7 @@ sub-result c = search needs
 returns-2 : tie.Need-returns-2
 returns-2 c = search needs
 
-pub guess-spec : {M : Type 1} → statement M
-guess-spec =
+pub estimate-spec : {M : Type 1} → statement M
+estimate-spec =
     tie.close
     (tie.spec int-to-float-x returns float-to-bits-b add-result mul-result sub-result returns-2)
