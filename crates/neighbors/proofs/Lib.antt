@@ -1,0 +1,3 @@
+pub mod SameBits
+pub mod Search
+pub mod Sighted

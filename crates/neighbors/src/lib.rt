@@ -1,0 +1,2 @@
+// Distinct medians (places), their links, the table of weights and the nodes.
+pub mod places;
