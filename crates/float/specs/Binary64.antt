@@ -1,8 +1,8 @@
 -- The operations of binary64 under short names, and its constants as the code writes them. Definitions only.
 use Prim.Native.Nat.{ℕ}
-use mathlib.Core.Bool.{Bool}
+use mathlib.Core.Bool.{Bool, true, false}
 use lib.IntN.{pos}
-use lib.Ieee.{Float, binary64, add, sub, mul, div, ofInt, ofBits}
+use lib.Ieee.{Float, nan, inf, fin, binary64, add, sub, mul, div, ofInt, ofBits}
 
 abbrev pub add64 : Float → Float → Float
 add64 = add binary64
@@ -34,3 +34,9 @@ two64 = ofBits binary64 0x4000_0000_0000_0000
 
 abbrev pub infinity64 : Float
 infinity64 = ofBits binary64 0x7FF0_0000_0000_0000
+
+-- Neither NaN nor an infinity.
+unfoldable pub finite : Float → Bool
+finite nan = false
+finite (inf s) = false
+finite (fin s m e) = true

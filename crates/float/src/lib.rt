@@ -3,7 +3,9 @@ ghost use mathlib.Core.Path.{_≡_};
 ghost use Prim.Native.Nat.{ℕ, _+_, _-_, _*_, _/_, _^_, _≤_, _<_};
 ghost use mathlib.Core.Bool.{false};
 ghost use lib.Ieee.{binary64, ofBits, odd};
+ghost use Rattle.float.specs.Binary64.{one64, whole64, div64, finite};
 ghost use Rattle.float.specs.Root.{root};
+ghost use Rattle.float.specs.Ln.{series, lnOf, ln, plogp};
 ghost use Rattle.float.specs.Parts.{Unpacked, Lifted, Even, Rooted, Squared};
 
 // The number m * 2^e.
@@ -206,4 +208,82 @@ pub fn sqrt(x: f64) -> f64
         return 0.0 / 0.0;
     }
     positive(b)
+}
+
+// The series of ln from t = 1/23 down to j = 1.
+fn odd_series(z: f64) -> f64
+    ensures { λ r. ⌜ r ≡ series 11 z (div64 one64 (whole64 23)) ⌝ }
+{
+    let t = 1.0 / 23.0;
+    let t = t * z + 1.0 / 21.0;
+    let t = t * z + 1.0 / 19.0;
+    let t = t * z + 1.0 / 17.0;
+    let t = t * z + 1.0 / 15.0;
+    let t = t * z + 1.0 / 13.0;
+    let t = t * z + 1.0 / 11.0;
+    let t = t * z + 1.0 / 9.0;
+    let t = t * z + 1.0 / 7.0;
+    let t = t * z + 1.0 / 5.0;
+    let t = t * z + 1.0 / 3.0;
+    t * z + 1.0 / 1.0
+}
+
+// ln of 2^k * m.
+fn ln_of(k: f64, m: f64) -> f64
+    ensures { λ r. ⌜ r ≡ lnOf k m ⌝ }
+{
+    let s = (m - 1.0) / (m + 1.0);
+    let t = odd_series(s * s);
+    k * f64::from_bits(0x3FE6_2E42_FEFA_39EF) + 2.0 * s * t
+}
+
+// ln of the value whose bits are b, finite and above zero: it is l.m / 2^52 times a power of two, with l.m of 53 binary digits.
+fn ln_positive(b: u64) -> f64
+    requires { ⌜ 0 < b ⌝ }
+    requires { ⌜ b < 0x7ff0_0000_0000_0000 ⌝ }
+    ensures { λ r. ⌜ r ≡ ln (ofBits binary64 b) ⌝ }
+{
+    let u = unpack(b);
+    let l = lift(u.m, u.e);
+    let e = l.e as u32 as f64;
+    if l.m < 0x18_0000_0000_0000 {
+        ln_of(e - 2096.0, f64::from_bits(l.m + 0x3fe0_0000_0000_0000))
+    } else {
+        ln_of(e - 2095.0, f64::from_bits(l.m + 0x3fd0_0000_0000_0000))
+    }
+}
+
+// The stand-in for the natural logarithm of p.
+pub fn ln(p: f64) -> f64
+    ensures { λ r. ⌜ r ≡ ln p ⌝ }
+{
+    if p != p {
+        return p;
+    }
+    let b = f64::to_bits(p);
+    if b == 0x7ff0_0000_0000_0000 {
+        return p;
+    }
+    if b % 0x8000_0000_0000_0000 == 0 {
+        return -1.0 / 0.0;
+    }
+    if 0x8000_0000_0000_0000 < b {
+        return 0.0 / 0.0;
+    }
+    ln_positive(b)
+}
+
+// p * ln(p), and 0 unless p > 0.
+pub fn plogp(p: f64) -> f64
+    ensures { λ r. ⌜ r ≡ plogp p ⌝ }
+{
+    if 0.0 < p { p * ln(p) } else { 0.0 }
+}
+
+// Whether x is neither NaN nor an infinity.
+pub fn is_finite(x: f64) -> bool
+    ensures { λ r. ⌜ r ≡ finite x ⌝ }
+{
+    let infinity = f64::from_bits(0x7ff0_0000_0000_0000);
+    if x < infinity { -infinity < x } else { false }
 }

@@ -1,0 +1,238 @@
+//! answer LAYER: reads a list of cases on standard input and writes one line of answers for each. The layers and their forms are in README.md.
+use edited::cluster::build_edges;
+use edited::config::Config;
+use edited::distance::{Euclidean, MetricKind};
+use edited::error::Error;
+use edited::infomap::{self, run_infomap, Network};
+use edited::model::{self, Infostop};
+use edited::neighbors::{query_neighbors, BruteForceNeighbors};
+use edited::record;
+use edited::standin;
+use edited::stay::get_stationary_events;
+use edited::text::{fail, Line, Numbers};
+use edited::types::{Point, TimedPoint};
+
+const MOST: u64 = 65_536;
+
+fn float(n: &mut Numbers, out: &mut Line) {
+    let op = n.up_to(2);
+    let x = n.float();
+    out.float(match op {
+        0 => x.sqrt(),
+        1 => standin::ln(x),
+        _ => infomap::access::plogp(x),
+    });
+}
+
+fn rng(n: &mut Numbers, out: &mut Line) {
+    let seed = n.next();
+    let items = n.up_to(512);
+    let k = n.up_to(MOST);
+    for x in infomap::access::outputs(seed, k) {
+        out.put(x);
+    }
+    let (list, state) = infomap::access::shuffled(seed, items);
+    for i in list {
+        out.put(i);
+    }
+    out.put(state);
+}
+
+fn point(n: &mut Numbers) -> Point {
+    let x = n.float();
+    Point::new(x, n.float())
+}
+
+fn fix(n: &mut Numbers) -> TimedPoint {
+    let p = point(n);
+    let mark = n.up_to(1);
+    let time = n.float();
+    TimedPoint {
+        point: p,
+        time: (mark == 1).then_some(time),
+    }
+}
+
+fn stay(n: &mut Numbers, out: &mut Line) {
+    let r1 = n.float();
+    let min_size = n.up_to(u64::MAX);
+    let min_staying_time = n.float();
+    let max_time_between = n.float();
+    let len = n.up_to(MOST);
+    let fixes: Vec<TimedPoint> = (0..len).map(|_| fix(n)).collect();
+    let events = get_stationary_events(
+        &fixes,
+        r1,
+        min_size,
+        min_staying_time,
+        max_time_between,
+        &Euclidean,
+    );
+    for e in events.event_map {
+        out.put(e);
+    }
+    out.put(events.medians.len());
+    for m in events.medians {
+        out.float(m.x).float(m.y);
+    }
+}
+
+fn neighbors(n: &mut Numbers, out: &mut Line) {
+    let r2 = n.float();
+    let len = n.up_to(MOST);
+    let medians: Vec<Point> = (0..len).map(|_| point(n)).collect();
+    let (places, inverse, counts) = model::access::unique(&medians);
+    let (near, _) =
+        query_neighbors(&places, r2, &Euclidean, false, &BruteForceNeighbors);
+    let (edges, singles) = build_edges(&near, None, &counts, 1.0);
+    out.put(places.len());
+    for (p, c) in places.iter().zip(&counts) {
+        out.float(p.x).float(p.y).put(c);
+    }
+    for i in inverse {
+        out.put(i);
+    }
+    out.put(edges.len());
+    for (a, b, w) in edges {
+        out.put(a).put(b).put(w);
+    }
+    out.put(places.len() - singles.len());
+    for i in (0..places.len()).filter(|i| !singles.contains(i)) {
+        out.put(i);
+    }
+}
+
+fn grouping(n: &mut Numbers, out: &mut Line) {
+    let seed = n.next();
+    let nodes = n.up_to(512);
+    let links = n.up_to(MOST * 2);
+    let mut network = Network::new(nodes);
+    let mut before = None;
+    for _ in 0..links {
+        let a = n.up_to(nodes as u64);
+        let b = n.up_to(nodes as u64);
+        if a >= b || b >= nodes || before.is_some_and(|p| p >= (a, b)) {
+            fail(&format!("links must rise, lower node first: {a} {b}"));
+        }
+        before = Some((a, b));
+        network.add_edge(a, b, n.float());
+    }
+    record::clear();
+    let modules = run_infomap(&network, seed, 3);
+    let r = record::kept();
+    out.put(r.mark).put(r.rounds).float(r.codelength);
+    for m in modules {
+        out.put(m);
+    }
+}
+
+/// Document 01's number of a refusal, and its trace.
+fn refusal(e: &Error) -> (u32, usize) {
+    const CAUSES: [(&str, u32); 13] = [
+        ("`r1` must", 1),
+        ("`r2` must", 2),
+        ("`min_staying_time` must be finite", 3),
+        ("`max_time_between` must be finite", 4),
+        ("`max_time_between` must be >", 5),
+        ("`min_size` must", 6),
+        ("expected at least one trajectory", 7),
+        ("trajectory is empty", 11),
+        ("coordinates must be finite", 12),
+        ("timestamps must be finite", 13),
+        ("timestamps must be present", 14),
+        ("timestamps must be ordered", 15),
+        ("no stop locations labeled", 18),
+    ];
+    let message = e.to_string();
+    let Some((_, number)) = CAUSES.iter().find(|(c, _)| message.contains(c))
+    else {
+        fail(&format!("a refusal without a number: {message}"));
+    };
+    let trace = message
+        .strip_prefix("invalid input: trace ")
+        .and_then(|t| t.split(':').next())
+        .map_or(0, |t| t.parse().expect("a trace number"));
+    (*number, trace)
+}
+
+fn fitted(
+    config: Config,
+    traces: &[Vec<TimedPoint>],
+    out: &mut Line,
+) -> Result<(), Error> {
+    let mut model = Infostop::from_config(config)?;
+    record::clear();
+    let labels = model.fit_predict_many(traces)?;
+    out.put(0).put(0);
+    for l in labels.into_iter().flatten() {
+        out.put(l);
+    }
+    let places = model.stationary_points()?;
+    let place_labels = model.stationary_labels()?;
+    out.put(places.len());
+    for (p, l) in places.iter().zip(place_labels) {
+        out.float(p.x).float(p.y).put(l);
+    }
+    let mut medians: Vec<_> = model.label_medians()?.into_iter().collect();
+    medians.sort_by_key(|m| m.0);
+    out.put(medians.len());
+    for (_, m) in medians {
+        out.float(m.x).float(m.y);
+    }
+    let r = record::kept();
+    out.put(r.mark).put(r.rounds);
+    Ok(())
+}
+
+fn fit(n: &mut Numbers, out: &mut Line) {
+    let r1 = n.float();
+    let r2 = n.float();
+    let label_singleton = n.up_to(1) == 1;
+    let min_staying_time = n.float();
+    let max_time_between = n.float();
+    let min_size = n.up_to(u64::MAX);
+    let seed = n.next();
+    let config = Config {
+        r1,
+        r2,
+        label_singleton,
+        min_staying_time,
+        max_time_between,
+        min_size,
+        seed,
+        distance_metric: MetricKind::Euclidean,
+        ..Config::default()
+    };
+    let count = n.up_to(256);
+    let lens: Vec<usize> = (0..count).map(|_| n.up_to(MOST)).collect();
+    let traces: Vec<Vec<TimedPoint>> = lens
+        .iter()
+        .map(|&len| (0..len).map(|_| fix(n)).collect())
+        .collect();
+    if let Err(e) = fitted(config, &traces, out) {
+        let (number, trace) = refusal(&e);
+        out.put(number).put(trace);
+    }
+}
+
+fn main() {
+    let args: Vec<String> = std::env::args().collect();
+    let layer: fn(&mut Numbers, &mut Line) =
+        match args.get(1).map(String::as_str) {
+            Some("float") if args.len() == 2 => float,
+            Some("rng") if args.len() == 2 => rng,
+            Some("stay") if args.len() == 2 => stay,
+            Some("neighbors") if args.len() == 2 => neighbors,
+            Some("infomap") if args.len() == 2 => grouping,
+            Some("fit") if args.len() == 2 => fit,
+            _ => fail("usage: answer float|rng|stay|neighbors|infomap|fit"),
+        };
+    let mut numbers = Numbers::read();
+    let cases = numbers.next();
+    for _ in 0..cases {
+        let mut line = Line::default();
+        layer(&mut numbers, &mut line);
+        println!("{}", line.text());
+    }
+    numbers.end();
+}

@@ -1,0 +1,700 @@
+//! generate LAYER: writes the list of cases of a layer, always the same. The layers and their forms are in README.md.
+use edited::infomap::{run_infomap, Network};
+use edited::record;
+use edited::text::{fail, Line};
+
+/// splitmix64 from a fixed seed: one stream a layer.
+struct Random(u64);
+
+impl Random {
+    fn next(&mut self) -> u64 {
+        self.0 = self.0.wrapping_add(0x9E37_79B9_7F4A_7C15);
+        let mut z = self.0;
+        z = (z ^ (z >> 30)).wrapping_mul(0xBF58_476D_1CE4_E5B9);
+        z = (z ^ (z >> 27)).wrapping_mul(0x94D0_49BB_1331_11EB);
+        z ^ (z >> 31)
+    }
+
+    fn below(&mut self, n: usize) -> usize {
+        (self.next() % n as u64) as usize
+    }
+
+    fn between(&mut self, low: usize, high: usize) -> usize {
+        low + self.below(high - low + 1)
+    }
+
+    fn chance(&mut self, one_in: usize) -> bool {
+        self.below(one_in) == 0
+    }
+
+    /// From 0 up to 1.
+    fn unit(&mut self) -> f64 {
+        (self.next() >> 11) as f64 / (1u64 << 53) as f64
+    }
+
+    fn pick<T: Copy>(&mut self, from: &[T]) -> T {
+        from[self.below(from.len())]
+    }
+}
+
+type Cases = Vec<Line>;
+
+// ---- float
+
+/// The value and its two neighbours.
+fn around(x: f64, out: &mut Vec<f64>) {
+    out.push(x);
+    if x > 0.0 && x.is_finite() {
+        out.push(f64::from_bits(x.to_bits() - 1));
+        out.push(f64::from_bits(x.to_bits() + 1));
+    }
+}
+
+fn specials() -> Vec<f64> {
+    let mut v = vec![
+        0.0,
+        -0.0,
+        f64::INFINITY,
+        f64::NEG_INFINITY,
+        f64::NAN,
+        -1.0,
+        -f64::MIN_POSITIVE,
+        -f64::from_bits(1),
+        f64::MIN,
+    ];
+    for x in [
+        f64::from_bits(1),
+        f64::from_bits(2),
+        f64::from_bits(3),
+        f64::MIN_POSITIVE,
+        f64::MAX,
+        0.5,
+        0.75,
+        1.0,
+        1.5,
+        2.0,
+        3.0,
+        25.0,
+        1e-15,
+        1e9,
+        2e18,
+    ] {
+        around(x, &mut v);
+    }
+    v
+}
+
+/// Roots: squares and their neighbours, squares of middles between two values, and any positive pattern.
+fn roots(r: &mut Random) -> Vec<f64> {
+    let mut v = specials();
+    for _ in 0..200 {
+        let n = r.between(2, 94_906_265) as f64;
+        around(n * n, &mut v);
+    }
+    for _ in 0..200 {
+        let q = 1.0 + r.unit();
+        let middle = q * q + q * f64::EPSILON;
+        around(middle * r.pick(&[1.0, 4.0, 0.25, 1e-300, 1e300]), &mut v);
+    }
+    for _ in 0..300 {
+        let (dx, dy) = (r.below(2_000_001) as f64, r.below(2_000_001) as f64);
+        v.push(dx * dx + dy * dy);
+    }
+    for _ in 0..200 {
+        v.push(f64::from_bits(r.next() >> r.between(12, 63)));
+    }
+    for _ in 0..400 {
+        v.push(f64::from_bits(r.next() >> 1));
+    }
+    v
+}
+
+/// Logarithms: around the ends of the interval of m, from 0 to 1, subnormals and any positive pattern.
+fn logarithms(r: &mut Random) -> Vec<f64> {
+    let mut v = specials();
+    for k in -60..60 {
+        let p = f64::powi(2.0, k);
+        around(0.75 * p, &mut v);
+        around(p, &mut v);
+    }
+    for _ in 0..500 {
+        v.push(r.unit());
+    }
+    for _ in 0..300 {
+        let d = r.between(1, 4000);
+        v.push(r.between(1, d) as f64 / d as f64);
+    }
+    for _ in 0..200 {
+        v.push(f64::from_bits(r.next() >> r.between(12, 63)));
+    }
+    for _ in 0..300 {
+        v.push(f64::from_bits(r.next() >> 1));
+    }
+    v
+}
+
+fn float(r: &mut Random) -> Cases {
+    let mut cases = Cases::new();
+    let mut all = |op: u32, values: Vec<f64>| {
+        for x in values {
+            let mut line = Line::default();
+            line.put(op).float(x);
+            cases.push(line);
+        }
+    };
+    all(0, roots(r));
+    all(1, logarithms(r));
+    all(2, logarithms(r));
+    cases
+}
+
+// ---- rng
+
+fn rng(r: &mut Random) -> Cases {
+    let seeds = [0, 1, 2, 3, 42, 43, u64::MAX, u64::MAX - 1, 1 << 63];
+    (0..2000)
+        .map(|i| {
+            let mut line = Line::default();
+            let seed = if i < seeds.len() {
+                seeds[i]
+            } else if r.chance(2) {
+                r.next()
+            } else {
+                r.below(10_000) as u64
+            };
+            line.put(seed);
+            line.put(if i % 100 == 0 { 512 } else { r.below(24) });
+            line.put(r.between(1, 4));
+            line
+        })
+        .collect()
+}
+
+// ---- stay
+
+/// The kinds of coordinates: whole numbers in a small square, of either sign of zero, any, tiny, huge.
+fn coordinate(r: &mut Random, kind: usize) -> f64 {
+    match kind {
+        0 => r.below(13) as f64,
+        1 => r.pick(&[0.0, -0.0, 3.0, -4.0, 5.0, -5.0]),
+        2 => (r.unit() - 0.5) * 30.0,
+        3 => f64::from_bits(r.below(9) as u64) * r.pick(&[1.0, -1.0]),
+        4 => 1e9 - r.below(20) as f64,
+        _ => r.pick(&[1.7e308, -1.7e308, 1e155, 1.0, 0.0]),
+    }
+}
+
+fn time_step(r: &mut Random, kind: usize) -> f64 {
+    match kind {
+        0 => r.below(3) as f64 * 50.0,
+        1 => r.pick(&[0.0, 300.0, 86_400.0, 86_401.0, 299.0]),
+        2 => r.unit() * 400.0,
+        _ => r.pick(&[0.0, 1.0, 100.0]),
+    }
+}
+
+fn put_fixes(r: &mut Random, line: &mut Line, n: usize, kind: usize) {
+    let timed = r.chance(2);
+    let mixed = r.chance(20);
+    let step = r.below(4);
+    let mut time = r.pick(&[0.0, -1000.0, 5e8]);
+    let stand = r.between(1, 6);
+    let (mut x, mut y) = (coordinate(r, kind), coordinate(r, kind));
+    for i in 0..n {
+        if r.chance(stand) {
+            x = coordinate(r, kind);
+            y = coordinate(r, kind);
+        }
+        if i > 0 {
+            time += time_step(r, step);
+        }
+        let mark = timed != (mixed && r.chance(3));
+        line.float(x).float(y).put(u32::from(mark)).float(time);
+    }
+}
+
+fn put_huge_times(r: &mut Random, line: &mut Line, n: usize) {
+    let mut times: Vec<f64> = (0..n)
+        .map(|_| r.pick(&[-1.7e308, -1e308, 0.0, -0.0, 1e308, 1.7e308]))
+        .collect();
+    times.sort_by(f64::total_cmp);
+    for t in times {
+        line.float(r.below(4) as f64).float(0.0).put(1).float(t);
+    }
+}
+
+fn stay(r: &mut Random) -> Cases {
+    (0..800)
+        .map(|i| {
+            let mut line = Line::default();
+            let kind = r.below(6);
+            let r1 = match kind {
+                3 => f64::from_bits(r.between(1, 6) as u64),
+                5 => r.pick(&[1e155, 1.7e308, 5.0]),
+                _ => r.pick(&[5.0, 10.0, 2.5, 1.0, 7.3]),
+            };
+            line.float(r1);
+            line.put(if r.chance(12) { r.below(2) } else { r.between(2, 5) });
+            line.float(r.pick(&[300.0, 100.0, 50.0, 1e-3, 1.7e308]));
+            line.float(r.pick(&[86_400.0, 400.0, 100.0, 1.7e308]));
+            let n = match i {
+                0..=3 => i,
+                _ if i % 90 == 0 => r.between(200, 400),
+                _ => r.between(1, 30),
+            };
+            line.put(n);
+            if i % 15 == 7 {
+                put_huge_times(r, &mut line, n);
+            } else {
+                put_fixes(r, &mut line, n, kind);
+            }
+            line
+        })
+        .collect()
+}
+
+// ---- neighbors
+
+fn neighbors(r: &mut Random) -> Cases {
+    (0..600)
+        .map(|i| {
+            let mut line = Line::default();
+            let kind = r.below(6);
+            let r2 = match kind {
+                3 => f64::from_bits(r.between(1, 6) as u64),
+                5 => r.pick(&[1e155, 1.7e308, 5.0]),
+                _ => r.pick(&[5.0, 1.0, 2.5, 3.7, 10.0]),
+            };
+            line.float(r2);
+            let n = match i {
+                0..=2 => i,
+                _ if i % 60 == 0 => r.between(60, 80),
+                _ => r.between(1, 24),
+            };
+            line.put(n);
+            for _ in 0..n {
+                line.float(coordinate(r, kind)).float(coordinate(r, kind));
+            }
+            line
+        })
+        .collect()
+}
+
+// ---- infomap
+
+struct Graph {
+    seed: u64,
+    nodes: usize,
+    links: Vec<(usize, usize, f64)>,
+}
+
+impl Graph {
+    /// The nodes that have a link, numbered anew.
+    fn linked(self) -> Self {
+        let mut number = vec![usize::MAX; self.nodes];
+        let mut nodes = 0;
+        for i in 0..self.nodes {
+            if self.links.iter().any(|l| l.0 == i || l.1 == i) {
+                number[i] = nodes;
+                nodes += 1;
+            }
+        }
+        let links = self
+            .links
+            .iter()
+            .map(|&(a, b, w)| (number[a], number[b], w))
+            .collect();
+        Self {
+            seed: self.seed,
+            nodes,
+            links,
+        }
+    }
+
+    /// How many nodes the isolation passes move.
+    fn isolated(&self) -> usize {
+        let mut network = Network::new(self.nodes);
+        for &(a, b, w) in &self.links {
+            network.add_edge(a, b, w);
+        }
+        record::clear();
+        run_infomap(&network, self.seed, 3);
+        record::kept().isolated
+    }
+
+    fn line(&self) -> Line {
+        let mut line = Line::default();
+        line.put(self.seed).put(self.nodes).put(self.links.len());
+        for &(a, b, w) in &self.links {
+            line.put(a).put(b).float(w);
+        }
+        line
+    }
+}
+
+fn seed(r: &mut Random) -> u64 {
+    if r.chance(2) {
+        42
+    } else {
+        r.next()
+    }
+}
+
+/// Weight of a link between places with these counts, as in a fit.
+fn larger(counts: &[usize], a: usize, b: usize) -> f64 {
+    counts[a].max(counts[b]) as f64
+}
+
+/// Points in a square, linked where near, with counts: what a fit gives.
+fn geometric(r: &mut Random, n: usize) -> Graph {
+    let side = 1.0 + r.unit() * 4.0;
+    let points: Vec<(f64, f64)> =
+        (0..n).map(|_| (r.unit() * side, r.unit() * side)).collect();
+    let most = r.pick(&[1, 3, 20]);
+    let counts: Vec<usize> = (0..n).map(|_| r.between(1, most)).collect();
+    let mut links = Vec::new();
+    for a in 0..n {
+        for b in a + 1..n {
+            let (dx, dy) = (points[a].0 - points[b].0, points[a].1 - points[b].1);
+            if dx * dx + dy * dy <= 1.0 {
+                links.push((a, b, larger(&counts, a, b)));
+            }
+        }
+    }
+    Graph {
+        seed: seed(r),
+        nodes: n,
+        links,
+    }
+}
+
+/// Each pair linked by chance, with weights of a kind.
+fn random(r: &mut Random, n: usize, one_in: usize) -> Graph {
+    let kind = r.below(6);
+    let mut links = Vec::new();
+    for a in 0..n {
+        for b in a + 1..n {
+            if r.chance(one_in) {
+                let w = match kind {
+                    0 | 1 => 1.0,
+                    2 => r.between(1, 4) as f64,
+                    3 => r.between(1, 65_536) as f64,
+                    4 => r.unit() + f64::MIN_POSITIVE,
+                    _ => f64::powi(2.0, r.between(0, 36) as i32),
+                };
+                links.push((a, b, w));
+            }
+        }
+    }
+    Graph {
+        seed: seed(r),
+        nodes: n,
+        links,
+    }
+}
+
+/// Cliques in a ring, joined by single links.
+fn cliques(r: &mut Random, parts: usize, size: usize) -> Graph {
+    let w = r.between(1, 3) as f64;
+    let mut links = Vec::new();
+    for a in 0..parts * size {
+        for b in a + 1..parts * size {
+            let joined = b == a + 1 || (a == 0 && b == parts * size - 1);
+            if a / size == b / size {
+                links.push((a, b, w));
+            } else if joined {
+                links.push((a, b, 1.0));
+            }
+        }
+    }
+    Graph {
+        seed: seed(r),
+        nodes: parts * size,
+        links,
+    }
+}
+
+/// Weights so large or so small that sums overflow or quotients underflow: codelengths that are not finite.
+fn extreme(r: &mut Random, n: usize) -> Graph {
+    let mut g = random(r, n, 2);
+    let weights = r.pick(&[
+        [f64::INFINITY, 1.0],
+        [1.7e308, 1.7e308],
+        [f64::from_bits(1), f64::from_bits(5)],
+        [1e-320, 1.0],
+        [1e300, 1e-300],
+    ]);
+    for l in &mut g.links {
+        l.2 = r.pick(&weights);
+    }
+    g
+}
+
+/// Graphs on which an isolation pass moves a node, by search.
+fn isolating(r: &mut Random, wanted: usize) -> Vec<Graph> {
+    let mut found = Vec::new();
+    while found.len() < wanted {
+        let n = r.between(5, 24);
+        let one_in = r.between(2, 5);
+        let g = if r.chance(2) {
+            random(r, n, one_in).linked()
+        } else {
+            geometric(r, n).linked()
+        };
+        if !g.links.is_empty() && g.isolated() > 0 {
+            found.push(g);
+        }
+    }
+    found
+}
+
+fn infomap(r: &mut Random) -> Cases {
+    let mut graphs = Vec::new();
+    for i in 0..420 {
+        let n = if i % 40 == 0 {
+            r.between(40, 60)
+        } else {
+            r.between(2, 14)
+        };
+        let one_in = r.between(1, 6);
+        graphs.push(match i % 6 {
+            0 | 1 => geometric(r, n),
+            2 | 3 => random(r, n, one_in),
+            4 => {
+                let parts = r.between(2, 6);
+                let size = r.between(2, 5);
+                cliques(r, parts, size)
+            }
+            _ => extreme(r, n.min(8)),
+        });
+    }
+    graphs.extend(isolating(r, 30));
+    graphs
+        .into_iter()
+        .map(Graph::linked)
+        .filter(|g| !g.links.is_empty())
+        .map(|g| g.line())
+        .collect()
+}
+
+// ---- fit
+
+#[derive(Clone)]
+struct Fit {
+    r1: f64,
+    r2: f64,
+    single: u32,
+    stay: f64,
+    gap: f64,
+    size: u64,
+    seed: u64,
+    traces: Vec<Vec<(f64, f64, Option<f64>)>>,
+}
+
+/// The settings of document 01's examples.
+const EXAMPLE: Fit = Fit {
+    r1: 10.0,
+    r2: 10.0,
+    single: 1,
+    stay: 300.0,
+    gap: 86_400.0,
+    size: 2,
+    seed: 42,
+    traces: Vec::new(),
+};
+
+impl Fit {
+    fn with(traces: Vec<Vec<(f64, f64, Option<f64>)>>) -> Self {
+        Self { traces, ..EXAMPLE }
+    }
+
+    fn line(&self) -> Line {
+        let mut line = Line::default();
+        line.float(self.r1).float(self.r2).put(self.single);
+        line.float(self.stay).float(self.gap).put(self.size).put(self.seed);
+        line.put(self.traces.len());
+        for t in &self.traces {
+            line.put(t.len());
+        }
+        for &(x, y, time) in self.traces.iter().flatten() {
+            line.float(x).float(y).put(u32::from(time.is_some()));
+            line.float(time.unwrap_or(0.0));
+        }
+        line
+    }
+}
+
+fn untimed(points: &[(f64, f64)]) -> Vec<(f64, f64, Option<f64>)> {
+    points.iter().map(|p| (p.0, p.1, None)).collect()
+}
+
+/// Two fixes at one point.
+fn twice(x: f64, y: f64) -> Vec<(f64, f64, Option<f64>)> {
+    untimed(&[(x, y), (x, y)])
+}
+
+fn timed_pair(a: f64, b: f64) -> Vec<(f64, f64, Option<f64>)> {
+    vec![(0.0, 0.0, Some(a)), (0.0, 0.0, Some(b))]
+}
+
+/// Document 01's tracks to try, and a track that the original labels in two ways.
+fn examples() -> Vec<Fit> {
+    let mut fits = vec![
+        Fit::with(vec![untimed(&[(0.0, 0.0), (6.0, 8.0)])]),
+        Fit::with(vec![untimed(&[(0.0, 0.0), (6.0, 9.0)])]),
+        Fit::with(vec![untimed(&[(0.0, 0.0)])]),
+    ];
+    for (a, b) in [
+        (0.0, 300.0),
+        (0.0, 299.0),
+        (0.0, 86_400.0),
+        (0.0, 86_401.0),
+        (7.0, 7.0),
+        (10.0, 9.0),
+    ] {
+        fits.push(Fit::with(vec![timed_pair(a, b)]));
+    }
+    fits.push(Fit::with(vec![vec![(0.0, 0.0, Some(1.0)), (0.0, 0.0, None)]]));
+    let same = vec![twice(0.0, 0.0), twice(0.0, 0.0)];
+    fits.push(Fit::with(same.clone()));
+    fits.push(Fit {
+        single: 0,
+        ..Fit::with(same)
+    });
+    fits.push(Fit::with(vec![twice(0.0, 0.0), twice(10.0, 0.0)]));
+    fits.push(Fit::with(vec![twice(0.0, 0.0), twice(10.5, 0.0)]));
+    fits.push(Fit::with(vec![twice(0.0, 0.0), twice(-0.0, 0.0)]));
+    fits.push(Fit::with(
+        [0.0, 10.0, 20.0].iter().map(|x| twice(*x, 0.0)).collect(),
+    ));
+    let two_answers = [
+        (4.0, 22.0),
+        (25.0, 23.0),
+        (17.0, 15.0),
+        (5.0, 16.0),
+        (21.0, 24.0),
+        (12.0, 7.0),
+        (4.0, 7.0),
+    ];
+    fits.push(Fit::with(
+        two_answers.iter().map(|p| twice(p.0, p.1)).collect(),
+    ));
+    fits
+}
+
+/// Each refusal of settings and tracks that the Rust has, some with a second cause behind it.
+fn refused() -> Vec<Fit> {
+    let good = Fit::with(vec![twice(0.0, 0.0)]);
+    let mut fits = Vec::new();
+    for bad in [0.0, -0.0, -1.0, f64::NAN, f64::INFINITY, f64::NEG_INFINITY] {
+        fits.push(Fit { r1: bad, ..good.clone() });
+        fits.push(Fit { r2: bad, size: 1, ..good.clone() });
+        fits.push(Fit { stay: bad, ..good.clone() });
+        fits.push(Fit { gap: bad, ..good.clone() });
+        fits.push(Fit { r1: bad, gap: bad, ..good.clone() });
+    }
+    for (stay, gap) in [(300.0, 300.0), (300.0, 299.0), (300.0, 301.0)] {
+        fits.push(Fit { stay, gap, ..good.clone() });
+    }
+    for size in [0, 1, 2, 3, u64::MAX] {
+        fits.push(Fit { size, ..good.clone() });
+    }
+    fits.push(Fit::with(vec![]));
+    let empty = Vec::new();
+    fits.push(Fit::with(vec![empty.clone()]));
+    fits.push(Fit::with(vec![twice(0.0, 0.0), empty, timed_pair(2.0, 1.0)]));
+    for bad in [f64::NAN, f64::INFINITY, f64::NEG_INFINITY] {
+        for late in [
+            vec![(0.0, 0.0, Some(bad)), (bad, 0.0, Some(1.0))],
+            vec![(0.0, bad, Some(bad)), (0.0, 0.0, None)],
+            vec![(0.0, 0.0, Some(2.0)), (0.0, 0.0, Some(bad))],
+            vec![(0.0, 0.0, Some(2.0)), (bad, 0.0, Some(1.0))],
+        ] {
+            fits.push(Fit::with(vec![twice(0.0, 0.0), late.clone()]));
+            fits.push(Fit::with(vec![late]));
+        }
+    }
+    fits.push(Fit::with(vec![
+        twice(0.0, 0.0),
+        vec![(0.0, 0.0, Some(2.0)), (0.0, 0.0, Some(1.0)), (0.0, 0.0, None)],
+    ]));
+    fits.push(Fit::with(vec![twice(0.0, 0.0), timed_pair(2.0, 1.0)]));
+    fits
+}
+
+/// Carriers that walk between huts of a grid and stand at some.
+fn walks(r: &mut Random) -> Fit {
+    let huts: Vec<(f64, f64)> = (0..r.between(1, 12))
+        .map(|_| (r.below(40) as f64, r.below(40) as f64))
+        .collect();
+    let step = r.pick(&[0.0, 0.5, 1.0]);
+    let mut traces = Vec::new();
+    for _ in 0..r.between(1, 6) {
+        let timed = r.chance(2);
+        let mut time = 0.0;
+        let mut trace = Vec::new();
+        for _ in 0..r.between(1, 6) {
+            let (hx, hy) = r.pick(&huts);
+            for _ in 0..r.between(1, 4) {
+                time += r.pick(&[0.0, 100.0, 200.0, 300.0]);
+                let x = hx + r.below(3) as f64 * step;
+                let y = hy + r.below(3) as f64 * step;
+                trace.push((x, y, timed.then_some(time)));
+            }
+        }
+        traces.push(trace);
+    }
+    Fit {
+        r1: r.pick(&[5.0, 10.0, 2.0]),
+        r2: r.pick(&[5.0, 10.0, 15.0]),
+        single: r.below(2) as u32,
+        size: r.between(2, 3) as u64,
+        seed: seed(r),
+        ..Fit::with(traces)
+    }
+}
+
+/// Many places, a trace of two equal fixes each, some visited again.
+fn standing(r: &mut Random, places: usize) -> Fit {
+    let side = r.between(20, 60);
+    let traces = (0..places)
+        .map(|_| twice(r.below(side) as f64, r.below(side) as f64))
+        .collect();
+    Fit {
+        single: r.below(2) as u32,
+        seed: seed(r),
+        ..Fit::with(traces)
+    }
+}
+
+fn fit(r: &mut Random) -> Cases {
+    let mut fits = examples();
+    fits.extend(refused());
+    for _ in 0..240 {
+        fits.push(walks(r));
+    }
+    for i in 0..160 {
+        let places = if i % 20 == 0 { r.between(60, 120) } else { r.between(2, 20) };
+        fits.push(standing(r, places));
+    }
+    fits.iter().map(Fit::line).collect()
+}
+
+fn main() {
+    let args: Vec<String> = std::env::args().collect();
+    let layer: fn(&mut Random) -> Cases =
+        match args.get(1).map(String::as_str) {
+            Some("float") if args.len() == 2 => float,
+            Some("rng") if args.len() == 2 => rng,
+            Some("stay") if args.len() == 2 => stay,
+            Some("neighbors") if args.len() == 2 => neighbors,
+            Some("infomap") if args.len() == 2 => infomap,
+            Some("fit") if args.len() == 2 => fit,
+            _ => fail("usage: generate float|rng|stay|neighbors|infomap|fit"),
+        };
+    let cases = layer(&mut Random(20_261_115));
+    println!("{}", cases.len());
+    for line in cases {
+        println!("{}", line.text());
+    }
+}

@@ -1,0 +1,13 @@
+//! The listed files of infostop with document 01's stand-ins, and what the oracle adds.
+pub mod cluster;
+pub mod config;
+pub mod distance;
+pub mod error;
+pub mod infomap;
+pub mod model;
+pub mod neighbors;
+pub mod record;
+pub mod standin;
+pub mod stay;
+pub mod text;
+pub mod types;
