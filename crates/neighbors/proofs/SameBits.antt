@@ -1,17 +1,14 @@
 -- Bit patterns of values that the format holds.
 use mathlib.Core.Path.{_≡_, refl, sym, ap, _∙_, subst}
-use Prim.Native.Nat.{ℕ}
 use mathlib.Core.Bool.{Bool, true, false, not, _&&_}
 use borrow.Author.Tests.{eq-eqb, ne-eqb}
 use lib.Dec.{T, eqb}
-use lib.Ieee.{Float, nan, inf, fin, binary64, ne, fits, isNan, toBits, ofBits}
-use lib.Ieee.Bits.{ofBits-toBits}
+use lib.Ieee.{Float, nan, inf, fin, binary64, ne, fits, isNan, toBits}
 use lib.Ieee.Compare.{differs-from-itself, nan-differs}
-use Rattle.neighbors.specs.Places.{sameBits, samePlace}
+use Rattle.float.specs.Binary64.{sameBits}
+use Rattle.float.proofs.SameBits.{bits-same, same-bits-refl}
+use Rattle.neighbors.specs.Places.{samePlace}
 use Rattle.distance.specs.declared.Point.{Point}
-
-same-data : (x y : Float) → T (fits binary64 x) → T (fits binary64 y) → toBits binary64 x ≡ toBits binary64 y → x ≡ y
-same-data x y f g e = sym (ofBits-toBits binary64 x f) ∙ ap (λ (n : ℕ). ofBits binary64 n) e ∙ ofBits-toBits binary64 y g
 
 pub no-nan : (x : Float) → ne x x ≡ false → T (not (isNan x))
 unfolding isNan
@@ -29,15 +26,15 @@ nan-left x y f g h = go (ne y y) refl
 
     go : (b : Bool) → ne y y ≡ b → b ≡ eqb (toBits binary64 x) (toBits binary64 y)
     go true e = sym (eq-eqb (toBits binary64 x) (toBits binary64 y) (ap (toBits binary64) (n ∙ sym (differs-from-itself y (subst T (sym e) tt)))))
-    go false e = sym (ne-eqb (toBits binary64 x) (toBits binary64 y) (λ p. absurd (subst T (sym h ∙ ap (λ (z : Float). ne z z) (same-data x y f g p) ∙ e) tt)))
+    go false e = sym (ne-eqb (toBits binary64 x) (toBits binary64 y) (λ p. absurd (subst T (sym h ∙ ap (λ (z : Float). ne z z) (bits-same x y f g p) ∙ e) tt)))
 
 pub nan-right : (x y : Float) → T (fits binary64 x) → T (fits binary64 y) → ne x x ≡ false → ne y y ≡ true → false ≡ sameBits x y
 unfolding sameBits
-nan-right x y f g h k = sym (ne-eqb (toBits binary64 x) (toBits binary64 y) (λ p. absurd (subst T (sym k ∙ ap (λ (z : Float). ne z z) (sym (same-data x y f g p)) ∙ h) tt)))
+nan-right x y f g h k = sym (ne-eqb (toBits binary64 x) (toBits binary64 y) (λ p. absurd (subst T (sym k ∙ ap (λ (z : Float). ne z z) (sym (bits-same x y f g p)) ∙ h) tt)))
 
 pub same-self : (p : Point) → samePlace p p ≡ true
-unfolding samePlace sameBits
-same-self p = rw (eq-eqb (toBits binary64 (p .x)) (toBits binary64 (p .x)) refl, eq-eqb (toBits binary64 (p .y)) (toBits binary64 (p .y)) refl)
+unfolding samePlace
+same-self p = rw (same-bits-refl (p .x), same-bits-refl (p .y))
 
 -- Two medians, coordinate by coordinate.
 pub both-same : (a b : Point) {s t : Bool} → s ≡ sameBits (a .x) (b .x) → s ≡ true → t ≡ sameBits (a .y) (b .y) → t ≡ samePlace a b

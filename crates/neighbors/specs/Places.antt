@@ -2,19 +2,15 @@
 use Prim.Native.Nat.{ℕ, zero, suc, _+_}
 use mathlib.Core.Bool.{Bool, _&&_, cond}
 use mathlib.Core.List.{List, [], _∷_}
-use lib.Dec.{leb, eqb}
+use lib.Dec.{leb}
 use lib.ListN.{length, getD, take}
-use lib.Ieee.{Float, binary64, toBits}
-use Rattle.float.specs.Binary64.{zero64}
+use lib.Ieee.{Float}
+use Rattle.float.specs.Binary64.{zero64, sameBits}
 use Rattle.distance.specs.declared.Point.{Point}
 use Rattle.neighbors.specs.declared.places.PlaceCount.{PlaceCount}
 use Rattle.neighbors.specs.declared.places.PlaceCount.the-variants.{Places, TooMany}
 
--- The bit patterns agree, so 0.0 and -0.0 differ.
-unfoldable pub sameBits : Float → Float → Bool
-sameBits a b = eqb (toBits binary64 a) (toBits binary64 b)
-
--- Two medians are one place if both bit patterns agree.
+-- Two medians are one place if both bit patterns agree, so 0.0 and -0.0 differ.
 unfoldable pub samePlace : Point → Point → Bool
 samePlace p q = sameBits (p .x) (q .x) && sameBits (p .y) (q .y)
 

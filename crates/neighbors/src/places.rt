@@ -3,7 +3,8 @@ ghost use mathlib.Core.Path.{_≡_};
 ghost use Prim.Native.Nat.{ℕ, _+_, _<_, _≤_};
 ghost use mathlib.Core.List.{List};
 ghost use lib.ListN.{length};
-ghost use Rattle.neighbors.specs.Places.{sameBits, samePlace, placeOf, sighted, places, stayCount, points, placesIn, front, distinctWithin};
+ghost use Rattle.neighbors.specs.Places.{samePlace, placeOf, sighted, places, stayCount, points, placesIn, front, distinctWithin};
+ghost use Rattle.float.specs.Binary64.{sameBits};
 use distance::Point;
 
 // How many places there are, or that they are more than there is room for.

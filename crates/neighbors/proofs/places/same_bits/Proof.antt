@@ -3,7 +3,7 @@ use mathlib.Core.Path.{_≡_, refl, sym, subst}
 use mathlib.Core.Bool.{not}
 use lib.Dec.{T}
 use lib.Ieee.{binary64, fits, isNan}
-use Rattle.neighbors.specs.Places.{sameBits}
+use Rattle.float.specs.Binary64.{sameBits}
 use Rattle.neighbors.proofs.SameBits.{no-nan, nan-left, nan-right}
 use Rattle.neighbors.proofs.places.same_bits.Statement.{statement}
 use Rattle.neighbors.proofs.places.same_bits.Tie as tie
