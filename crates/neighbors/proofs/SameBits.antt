@@ -32,10 +32,6 @@ pub nan-right : (x y : Float) → T (fits binary64 x) → T (fits binary64 y) �
 unfolding sameBits
 nan-right x y f g h k = sym (ne-eqb (toBits binary64 x) (toBits binary64 y) (λ p. absurd (subst T (sym k ∙ ap (λ (z : Float). ne z z) (sym (bits-same x y f g p)) ∙ h) tt)))
 
-pub same-self : (p : Point) → samePlace p p ≡ true
-unfolding samePlace
-same-self p = rw (same-bits-refl (p .x), same-bits-refl (p .y))
-
 -- Two medians, coordinate by coordinate.
 pub both-same : (a b : Point) {s t : Bool} → s ≡ sameBits (a .x) (b .x) → s ≡ true → t ≡ sameBits (a .y) (b .y) → t ≡ samePlace a b
 unfolding samePlace
@@ -44,3 +40,7 @@ both-same a b p q r = r ∙ ap (λ (z : Bool). z && sameBits (a .y) (b .y)) (sym
 pub first-differs : (a b : Point) {s : Bool} → s ≡ sameBits (a .x) (b .x) → s ≡ false → false ≡ samePlace a b
 unfolding samePlace
 first-differs a b p q = ap (λ (z : Bool). z && sameBits (a .y) (b .y)) (sym q ∙ p)
+
+pub same-self : (p : Point) → samePlace p p ≡ true
+unfolding samePlace
+same-self p = rw (same-bits-refl (p .x), same-bits-refl (p .y))

@@ -35,7 +35,7 @@ pub search-on : (xs ys : List Float) (m : Point) (i : ℕ) {t : Bool} → Reache
 unfolding Reached placeOf placesIn
 search-on xs ys m i r h p e t cs q =
     let z : placeOf (placesIn (drop i xs) (drop i ys) (drop i cs)) m ≡ suc (placeOf (placesIn (drop (i + 1) xs) (drop (i + 1) ys) (drop (i + 1) cs)) m) =
-      rw (add-one i, drop-cons xs i nan h, drop-cons ys i nan (omega arith), drop-cons cs i 0 (omega arith), ← e, t) in
+    rw (add-one i, drop-cons xs i nan h, drop-cons ys i nan (omega arith), drop-cons cs i 0 (omega arith), ← e, t) in
     omega (arith, r cs q)
 
 pub search-end : (xs ys : List Float) (m : Point) (i : ℕ) → Reached xs ys m i → length xs ≤ i → Answer xs ys m i

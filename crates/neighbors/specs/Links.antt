@@ -25,6 +25,10 @@ link dist r2 ps i j = not (eqb i j) && le (apart dist ps i j) r2
 unfoldable pub weight : Metric → Float → List Place → ℕ → ℕ → Float
 weight dist r2 ps i j = cond (link dist r2 ps i j) (whole64 (max (placeAt ps i .count) (placeAt ps j .count))) zero64
 
+-- The same as a whole number.
+unfoldable pub wholeWeight : Metric → Float → List Place → ℕ → ℕ → ℕ
+wholeWeight dist r2 ps i j = cond (link dist r2 ps i j) (max (placeAt ps i .count) (placeAt ps j .count)) 0
+
 -- Whether a place has a link; one without is a single.
 unfoldable pub linked : Metric → Float → List Place → ℕ → Bool
 linked dist r2 ps i = anyOf (link dist r2 ps i) (upto (length ps))

@@ -73,7 +73,13 @@ fn sight(xs: &mut [f64], ys: &mut [f64], counts: &mut [u32], n: usize, m: Point)
 }
 
 // Writes the places of the medians in order, with their counts, to the front of the slices; TooMany where there is no room for them.
-pub fn distinct(mx: &[f64], my: &[f64], xs: &mut [f64], ys: &mut [f64], counts: &mut [u32]) -> PlaceCount
+pub fn distinct(
+    mx: &[f64],
+    my: &[f64],
+    xs: &mut [f64],
+    ys: &mut [f64],
+    counts: &mut [u32],
+) -> PlaceCount
     requires { ⌜ (length (now my) ≡ length (now mx)) × (length (now mx) ≤ 65536) × (length (now ys) ≡ length (now xs)) × (length (now counts) ≡ length (now xs)) ⌝ }
     ensures { λ r. ⌜ (r ≡ distinctWithin (length (now (xs .entry))) (places (points (now (mx .entry)) (now (my .entry))))) × (length (places (points (now (mx .entry)) (now (my .entry)))) ≤ length (now (xs .entry)) → front (now (xs .exit)) (now (ys .exit)) (now (counts .exit)) (length (places (points (now (mx .entry)) (now (my .entry))))) ≡ places (points (now (mx .entry)) (now (my .entry)))) ⌝ }
 {

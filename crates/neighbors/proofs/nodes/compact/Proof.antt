@@ -1,3 +1,4 @@
+-- `neighbors::nodes::compact` meets its contract.
 use mathlib.Core.Path.{_≡_, refl, sym, _∙_}
 use Prim.Native.Nat.{_+_, _*_, _-_, _≤_}
 use native.Mathlib.Omega.{arith}
@@ -7,9 +8,6 @@ use Rattle.neighbors.proofs.Compact.{compact-none, compact-all}
 use borrow.Author.Needs.{needs}
 use Rattle.neighbors.proofs.nodes.compact.Statement.{statement}
 use Rattle.neighbors.proofs.nodes.compact.Tie as tie
-use Rattle.neighbors.proofs.nodes.compact.Reads as reads
-use Rattle.neighbors.proofs.nodes.compact.Lts as lts
-use Rattle.neighbors.proofs.nodes.compact_row.Reads as compact-row-reads
 
 abbrev Inv-loop : tie.InvT-loop
 Inv-loop table₀ n nodes u₀ table u = (Compacted n nodes table₀ table (u * length nodes)) × (length table ≡ length table₀) × (u ≤ length nodes)

@@ -1,3 +1,4 @@
+-- `neighbors::nodes::compact_row` meets its contract.
 use mathlib.Core.Path.{_≡_, refl, sym, _∙_}
 use mathlib.Core.List.{List}
 use Prim.Native.Nat.{ℕ, _+_, _*_, _-_, _≤_}
@@ -9,9 +10,6 @@ use Rattle.neighbors.proofs.Compact.{source-in, source-few, target-few,
 use borrow.Author.Needs.{needs}
 use Rattle.neighbors.proofs.nodes.compact_row.Statement.{statement}
 use Rattle.neighbors.proofs.nodes.compact_row.Tie as tie
-use Rattle.neighbors.proofs.nodes.compact_row.Reads as reads
-use Rattle.neighbors.proofs.nodes.compact_row.Lts as lts
-use Rattle.neighbors.proofs.nodes.wide.Reads as wide-reads
 
 abbrev Inv-loop : tie.InvT-loop
 Inv-loop table₀ n nodes u k i v₀ table v = ((t : List Float) → Compacted n nodes t table₀ (u * length nodes) → Compacted n nodes t table (u * length nodes + v)) × (length table ≡ length table₀) × (v ≤ length nodes)

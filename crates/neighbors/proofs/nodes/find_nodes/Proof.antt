@@ -1,3 +1,4 @@
+-- `neighbors::nodes::find_nodes` meets its contract.
 use mathlib.Core.Path.{_≡_, refl, sym, _∙_}
 use Prim.Native.Nat.{_-_, _≤_}
 use native.Mathlib.Omega.{arith}
@@ -7,10 +8,6 @@ use Rattle.neighbors.proofs.Selected.{Selected, select-start, select-on
 use borrow.Author.Needs.{needs}
 use Rattle.neighbors.proofs.nodes.find_nodes.Statement.{statement}
 use Rattle.neighbors.proofs.nodes.find_nodes.Tie as tie
-use Rattle.neighbors.proofs.nodes.find_nodes.Reads as reads
-use Rattle.neighbors.proofs.nodes.find_nodes.Lts as lts
-use Rattle.neighbors.proofs.nodes.has_weight.Reads as has-weight-reads
-use Rattle.neighbors.proofs.nodes.put_if.Reads as put-if-reads
 
 abbrev Inv-loop : tie.InvT-loop
 Inv-loop table n nodes₀ k₀ i₀ nodes k i = (Selected (hasWeight n table) n nodes k i) × (length nodes ≡ length nodes₀) × (i ≤ n)

@@ -1,3 +1,4 @@
+-- `neighbors::nodes::has_weight` meets its contract.
 use mathlib.Core.Path.{_≡_}
 use Prim.Native.Nat.{ℕ, _+_, _*_, _-_, _≤_}
 use native.Mathlib.Omega.{arith}
@@ -11,8 +12,6 @@ use Rattle.neighbors.proofs.Selected.{any-start, any-hit, any-on, any-e
 use borrow.Author.Needs.{needs}
 use Rattle.neighbors.proofs.nodes.has_weight.Statement.{statement}
 use Rattle.neighbors.proofs.nodes.has_weight.Tie as tie
-use Rattle.neighbors.proofs.nodes.has_weight.Reads as reads
-use Rattle.neighbors.proofs.nodes.has_weight.Lts as lts
 
 abbrev Inv-loop : tie.InvT-loop
 Inv-loop table n i j₀ j = (hasWeight n table i ≡ anyOf (λ (j : ℕ). lt zero64 (getD table (i * n + j) nan)) (from j (n - j))) × (j ≤ n)

@@ -1,9 +1,8 @@
+-- `neighbors::nodes::put_if` meets its contract.
 use mathlib.Core.Path.{_≡_, refl, sym, _∙_}
 use borrow.Author.Needs.{needs}
 use Rattle.neighbors.proofs.nodes.put_if.Statement.{statement}
 use Rattle.neighbors.proofs.nodes.put_if.Tie as tie
-use Rattle.neighbors.proofs.nodes.put_if.Reads as reads
-use Rattle.neighbors.proofs.nodes.put_if.Lts as lts
 
 cast-nodes : tie.Need-cast-nodes
 cast-nodes c = search needs

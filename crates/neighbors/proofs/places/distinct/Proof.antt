@@ -1,3 +1,4 @@
+-- `neighbors::places::distinct` meets its contract.
 use mathlib.Core.Path.{_≡_, refl, sym, ap, _∙_}
 use Prim.Native.Nat.{_-_, _≤_}
 use native.Mathlib.Omega.{arith}
@@ -6,9 +7,6 @@ use Rattle.neighbors.proofs.Sighted.{Reached, distinct-start, distinct-
 use borrow.Author.Needs.{needs}
 use Rattle.neighbors.proofs.places.distinct.Statement.{statement}
 use Rattle.neighbors.proofs.places.distinct.Tie as tie
-use Rattle.neighbors.proofs.places.distinct.Reads as reads
-use Rattle.neighbors.proofs.places.distinct.Lts as lts
-use Rattle.neighbors.proofs.places.sight.Reads as sight-reads
 
 abbrev Inv-loop : tie.InvT-loop
 Inv-loop mx my xs₀ ys₀ counts₀ n₀ k₀ xs ys counts n k = (Reached mx my xs ys counts n k) × (k ≤ length mx) × (length xs ≡ length xs₀) × (length ys ≡ length ys₀) × (length counts ≡ length counts₀)

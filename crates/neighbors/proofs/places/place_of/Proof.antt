@@ -1,3 +1,4 @@
+-- `neighbors::places::place_of` meets its contract.
 use Prim.Native.Nat.{_-_, _≤_}
 use native.Mathlib.Omega.{arith}
 use lib.ListN.{length}
@@ -5,9 +6,6 @@ use Rattle.neighbors.proofs.Search.{Reached, search-start, search-hit, 
 use borrow.Author.Needs.{needs}
 use Rattle.neighbors.proofs.places.place_of.Statement.{statement}
 use Rattle.neighbors.proofs.places.place_of.Tie as tie
-use Rattle.neighbors.proofs.places.place_of.Reads as reads
-use Rattle.neighbors.proofs.places.place_of.Lts as lts
-use Rattle.neighbors.proofs.places.same_place.Reads as same-place-reads
 
 abbrev Inv-loop : tie.InvT-loop
 Inv-loop xs ys m i₀ i = (i ≤ length xs) × Reached xs ys m i

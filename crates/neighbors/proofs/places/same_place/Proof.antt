@@ -1,10 +1,8 @@
+-- `neighbors::places::same_place` meets its contract.
 use Rattle.neighbors.proofs.SameBits.{both-same, first-differs}
 use borrow.Author.Needs.{needs}
 use Rattle.neighbors.proofs.places.same_place.Statement.{statement}
 use Rattle.neighbors.proofs.places.same_place.Tie as tie
-use Rattle.neighbors.proofs.places.same_place.Reads as reads
-use Rattle.neighbors.proofs.places.same_place.Lts as lts
-use Rattle.neighbors.proofs.places.same_bits.Reads as same-bits-reads
 
 same-bits-requires : tie.Need-same-bits-requires
 same-bits-requires c κs = search needs

@@ -1,12 +1,10 @@
+-- `neighbors::places::sight` meets its contract.
 use native.Mathlib.Nat.{sub-zero}
 use native.Mathlib.Omega.{arith}
 use Rattle.neighbors.proofs.Sighted.{count-front, sight-again, sight-full, sight-new}
 use borrow.Author.Needs.{needs}
 use Rattle.neighbors.proofs.places.sight.Statement.{statement}
 use Rattle.neighbors.proofs.places.sight.Tie as tie
-use Rattle.neighbors.proofs.places.sight.Reads as reads
-use Rattle.neighbors.proofs.places.sight.Lts as lts
-use Rattle.neighbors.proofs.places.place_of.Reads as place-of-reads
 
 sub-place-of : tie.Need-sub-place-of
 sub-place-of c = search needs

@@ -1,3 +1,4 @@
+-- `neighbors::weights::cell` meets its contract.
 use mathlib.Core.Path.{_≡_, sym, _∙_}
 use native.Mathlib.Omega.{arith}
 use lib.ListN.{length}
@@ -7,9 +8,6 @@ use Rattle.neighbors.proofs.Linked.{weight-sym, cell-same, cell-pair}
 use borrow.Author.Needs.{needs}
 use Rattle.neighbors.proofs.weights.cell.Statement.{statement}
 use Rattle.neighbors.proofs.weights.cell.Tie as tie
-use Rattle.neighbors.proofs.weights.cell.Reads as reads
-use Rattle.neighbors.proofs.weights.cell.Lts as lts
-use Rattle.neighbors.proofs.weights.pair_weight.Reads as pair-weight-reads
 
 mul-result : tie.Need-mul-result
 mul-result c = record { fits = omega (arith, few-cells (length (c .before .before .before .before .before .args .xs .now)) (c .before .before .before .before .before .args .j) (c .before .before .before .before .before .args .i) (c .before .before .before .before .before .pre .0 .few) (c .before .before .before .before .before .pre .2) (c .before .before .before .before .before .pre .1)) }

@@ -1,3 +1,4 @@
+-- `neighbors::weights::fill_row` meets its contract.
 use mathlib.Core.Path.{_≡_, refl, sym, _∙_}
 use Prim.Native.Nat.{_+_, _*_, _-_, _≤_}
 use native.Mathlib.Omega.{arith}
@@ -10,9 +11,6 @@ use Rattle.neighbors.proofs.Cells.{few-cells, in-table, tabled-less, ta
 use borrow.Author.Needs.{needs}
 use Rattle.neighbors.proofs.weights.fill_row.Statement.{statement}
 use Rattle.neighbors.proofs.weights.fill_row.Tie as tie
-use Rattle.neighbors.proofs.weights.fill_row.Reads as reads
-use Rattle.neighbors.proofs.weights.fill_row.Lts as lts
-use Rattle.neighbors.proofs.weights.cell.Reads as cell-reads
 
 abbrev Inv-loop : tie.InvT-loop
 Inv-loop xs ys counts r2 table₀ i n j₀ table j = (Tabled (weight euclidean r2 (placesIn xs ys counts)) (length xs) table (i * length xs + j)) × (length table ≡ length table₀) × (j ≤ length xs)

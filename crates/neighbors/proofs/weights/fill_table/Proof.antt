@@ -1,3 +1,4 @@
+-- `neighbors::weights::fill_table` meets its contract.
 use mathlib.Core.Path.{_≡_, refl, sym, _∙_}
 use Prim.Native.Nat.{_+_, _*_, _-_, _≤_}
 use native.Mathlib.Omega.{arith}
@@ -10,9 +11,6 @@ use Rattle.neighbors.proofs.Cells.{tabled-none, tabled-end}
 use borrow.Author.Needs.{needs}
 use Rattle.neighbors.proofs.weights.fill_table.Statement.{statement}
 use Rattle.neighbors.proofs.weights.fill_table.Tie as tie
-use Rattle.neighbors.proofs.weights.fill_table.Reads as reads
-use Rattle.neighbors.proofs.weights.fill_table.Lts as lts
-use Rattle.neighbors.proofs.weights.fill_row.Reads as fill-row-reads
 
 abbrev Inv-loop : tie.InvT-loop
 Inv-loop xs ys counts r2 table₀ n i₀ table i = (Tabled (weight euclidean r2 (placesIn xs ys counts)) (length xs) table (i * length xs)) × (length table ≡ length table₀) × (i ≤ length xs)

@@ -1,12 +1,9 @@
+-- `neighbors::weights::pair_weight` meets its contract.
 use Rattle.distance.specs.Distance.{euclidean}
 use Rattle.neighbors.proofs.Linked.{pair-links, pair-apart}
 use borrow.Author.Needs.{needs}
 use Rattle.neighbors.proofs.weights.pair_weight.Statement.{statement}
 use Rattle.neighbors.proofs.weights.pair_weight.Tie as tie
-use Rattle.neighbors.proofs.weights.pair_weight.Reads as reads
-use Rattle.neighbors.proofs.weights.pair_weight.Lts as lts
-use Rattle.distance.proofs.distance.Reads as distance-reads
-use Rattle.neighbors.proofs.weights.larger.Reads as larger-reads
 
 distance-requires : tie.Need-distance-requires
 distance-requires c κs = search needs
