@@ -20,7 +20,7 @@ use Rattle.float.specs.Binary64.{finite}
 pub true→T : {b : Bool} → b ≡ true → T b
 true→T e = subst T (sym e) tt
 
-same-truth : (p q : Bool) → (T p → T q) → (T q → T p) → p ≡ q
+pub same-truth : (p q : Bool) → (T p → T q) → (T q → T p) → p ≡ q
 same-truth true true f g = refl
 same-truth true false f g = absurd (f tt)
 same-truth false true f g = absurd (g tt)

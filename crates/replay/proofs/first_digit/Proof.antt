@@ -8,9 +8,6 @@ use Rattle.replay.specs.Numbers.{start}
 use Rattle.replay.proofs.Digits.{before-on, before-stop, before-end}
 use Rattle.replay.proofs.first_digit.Statement.{statement}
 use Rattle.replay.proofs.first_digit.Tie as tie
-use Rattle.replay.proofs.first_digit.Reads as reads
-use Rattle.replay.proofs.first_digit.Lts as lts
-use Rattle.replay.proofs.is_digit.Reads as is-digit-reads
 
 abbrev Inv-loop : tie.InvT-loop
 Inv-loop text at i₀ i = start text i ≡ start text at
