@@ -3,3 +3,4 @@ pub mod Passes
 pub mod Numbers
 pub mod Rounds
 pub mod Start
+pub mod Ends

@@ -134,9 +134,9 @@ fn isolation_pass(
     ensures { λ r. ⌜ (passOf (now (partition .exit)) (now (exits .exit)) (now (strengths .exit)) r ≡ isolationPass (netOf (now (table .entry)) stride (now (strength .entry)) d) (passOf (now (partition .entry)) (now (exits .entry)) (now (strengths .entry)) start) (now (order .entry))) × Firsts (now (partition .exit)) (now (first .exit)) ⌝ }
 {
     let mut w = start;
-    let mut i = 0;
-    while i < order.len() {
-        let u = map_state::wide(order[i]);
+    let mut k = 0;
+    while k < order.len() {
+        let u = map_state::wide(order[k]);
         let q = w.q;
         let a = scan::isolate(
             table,
@@ -163,7 +163,7 @@ fn isolation_pass(
             u,
             a,
         );
-        i += 1;
+        k += 1;
     }
     w
 }

@@ -18,10 +18,10 @@ use Rattle.optimize.proofs.act.Reads as act-reads
 use Rattle.scan.proofs.isolate.Reads as isolate-reads
 
 abbrev Inv-loop : tie.InvT-loop
-Inv-loop table m strength d part₀ first₀ exits₀ strengths₀ order w₀ i₀ part first exit strengths w i = (pass isolate (netOf table m strength d) (passOf part exit strengths w) (drop i order) ≡ pass isolate (netOf table m strength d) (passOf part₀ exits₀ strengths₀ w₀) order) × (Sized table m strength part first exit strengths) × (Firsts part first) × (length part ≡ length part₀) × (length first ≡ length first₀) × (length exit ≡ length exits₀) × (length strengths ≡ length strengths₀) × (i ≤ length order) × (AtMost (900000 + i) part)
+Inv-loop table m strength d part₀ first₀ exits₀ strengths₀ order w₀ k₀ part first exit strengths w k = (pass isolate (netOf table m strength d) (passOf part exit strengths w) (drop k order) ≡ pass isolate (netOf table m strength d) (passOf part₀ exits₀ strengths₀ w₀) order) × (Sized table m strength part first exit strengths) × (Firsts part first) × (length part ≡ length part₀) × (length first ≡ length first₀) × (length exit ≡ length exits₀) × (length strengths ≡ length strengths₀) × (k ≤ length order) × (AtMost (900000 + k) part)
 
 abbrev μ-loop : tie.MeasureT-loop
-μ-loop table m strength d part₀ first₀ exits₀ strengths₀ order w₀ i₀ part first exit strengths w i = length order - i
+μ-loop table m strength d part₀ first₀ exits₀ strengths₀ order w₀ k₀ part first exit strengths w k = length order - k
 
 loop-holds : tie.Need-loop-holds Inv-loop μ-loop
 loop-holds c = (refl, c .before .before .before .before .before .before .before .pre .0, c .before .before .before .before .before .before .before .pre .1, refl, refl, refl, refl, omega arith, at-most-more 900000 (900000 + 0) (c .before .before .before .before .before .before .before .args .partition .now) (omega arith) (c .before .before .before .before .before .before .before .pre .4))
@@ -36,13 +36,13 @@ wide-requires : tie.Need-wide-requires Inv-loop μ-loop
 wide-requires c κs = search needs
 
 isolate-requires : tie.Need-isolate-requires Inv-loop μ-loop
-isolate-requires c κs = (c .before .before .before .before .before .before .before .loop .inv .1, omega (arith, c .before .before .before .before .wide .ensures, below-at (length (c .before .before .before .before .before .before .before .before .before .before .before .before .before .before .before .args .partition .now)) (c .before .before .before .before .before .before .before .before .before .before .before .before .before .before .before .args .order .now) (c .before .before .before .before .before .before .before .before .before .before .before .before .before .before .before .pre .2) (c .before .before .before .before .before .before .before .loop .i) (c .before .before .before .before .before .before .loop-test .taken), c .before .before .before .before .before .before .before .loop .inv .3), c .before .before .before .before .before .before .before .loop .inv .2, omega (arith, highest-le (900000 + c .before .before .before .before .before .before .before .loop .i) (c .before .before .before .before .before .before .before .loop .partition) (c .before .before .before .before .before .before .before .loop .inv .8), c .before .before .before .before .before .before .before .before .before .before .before .before .before .before .before .pre .3))
+isolate-requires c κs = (c .before .before .before .before .before .before .before .loop .inv .1, omega (arith, c .before .before .before .before .wide .ensures, below-at (length (c .before .before .before .before .before .before .before .before .before .before .before .before .before .before .before .args .partition .now)) (c .before .before .before .before .before .before .before .before .before .before .before .before .before .before .before .args .order .now) (c .before .before .before .before .before .before .before .before .before .before .before .before .before .before .before .pre .2) (c .before .before .before .before .before .before .before .loop .k) (c .before .before .before .before .before .before .loop-test .taken), c .before .before .before .before .before .before .before .loop .inv .3), c .before .before .before .before .before .before .before .loop .inv .2, omega (arith, highest-le (900000 + c .before .before .before .before .before .before .before .loop .k) (c .before .before .before .before .before .before .before .loop .partition) (c .before .before .before .before .before .before .before .loop .inv .8), c .before .before .before .before .before .before .before .before .before .before .before .before .before .before .before .pre .3))
 
 act-requires : tie.Need-act-requires Inv-loop μ-loop
-act-requires c κs = (c .before .before .before .before .before .before .before .before .before .before .before .before .loop .inv .1, omega (arith, c .before .before .before .before .before .before .before .before .before .wide .ensures, below-at (length (c .before .before .before .before .before .before .before .before .before .before .before .before .before .before .before .before .before .before .before .before .args .partition .now)) (c .before .before .before .before .before .before .before .before .before .before .before .before .before .before .before .before .before .before .before .before .args .order .now) (c .before .before .before .before .before .before .before .before .before .before .before .before .before .before .before .before .before .before .before .before .pre .2) (c .before .before .before .before .before .before .before .before .before .before .before .before .loop .i) (c .before .before .before .before .before .before .before .before .before .before .before .loop-test .taken), c .before .before .before .before .before .before .before .before .before .before .before .before .loop .inv .3), c .before .before .before .before .before .before .before .before .before .before .before .before .loop .inv .2)
+act-requires c κs = (c .before .before .before .before .before .before .before .before .before .before .before .before .loop .inv .1, omega (arith, c .before .before .before .before .before .before .before .before .before .wide .ensures, below-at (length (c .before .before .before .before .before .before .before .before .before .before .before .before .before .before .before .before .before .before .before .before .args .partition .now)) (c .before .before .before .before .before .before .before .before .before .before .before .before .before .before .before .before .before .before .before .before .args .order .now) (c .before .before .before .before .before .before .before .before .before .before .before .before .before .before .before .before .before .before .before .before .pre .2) (c .before .before .before .before .before .before .before .before .before .before .before .before .loop .k) (c .before .before .before .before .before .before .before .before .before .before .before .loop-test .taken), c .before .before .before .before .before .before .before .before .before .before .before .before .loop .inv .3), c .before .before .before .before .before .before .before .before .before .before .before .before .loop .inv .2)
 
-add-i : tie.Need-add-i Inv-loop μ-loop
-add-i c = omega (arith, c .before .before .before .before .before .before .before .before .before .before .before .before .before .before .before .before .before .before .before .before .loop-test .taken, c .before .before .before .before .before .before .before .before .before .before .before .before .before .before .before .before .before .before .before .before .before .before .before .before .before .before .before .before .before .pre .3)
+add-k : tie.Need-add-k Inv-loop μ-loop
+add-k c = omega (arith, c .before .before .before .before .before .before .before .before .before .before .before .before .before .before .before .before .before .before .before .before .loop-test .taken, c .before .before .before .before .before .before .before .before .before .before .before .before .before .before .before .before .before .before .before .before .before .before .before .before .before .before .before .before .before .pre .3)
 
 loop-less : tie.Need-loop-less Inv-loop μ-loop
 loop-less c = search needs
@@ -51,7 +51,7 @@ loop-again : tie.Need-loop-again Inv-loop μ-loop
 loop-again c =
     let a = c .before .before .before .before .before .before .before .before .before .before .before .before .before .before .before .before .before .before .before .before .before .before .before .before .before .before .before .before .before .args in
     let l = c .before .before .before .before .before .before .before .before .before .before .before .before .before .before .before .before .before .before .before .before .before .loop in (
-      pass-on isolate (netOf (a .table .now) (a .stride) (a .strength .now) (a .d)) (passOf (l .partition) (l .exits) (l .strengths) (l .w)) (a .order .now) (l .i) (c .before .before .before .before .before .before .before .before .before .before .before .before .before .before .before .before .before .before .before .before .loop-test .taken) (c .before .before .before .before .before .before .before .before .before .before .before .before .before .before .before .before .before .before .wide .ensures) (c .before .before .before .before .before .before .before .before .before .before .before .before .before .isolate .ensures) (c .before .before .before .before .before .before .before .before .act .ensures .0) ∙ l .inv .0,
+      pass-on isolate (netOf (a .table .now) (a .stride) (a .strength .now) (a .d)) (passOf (l .partition) (l .exits) (l .strengths) (l .w)) (a .order .now) (l .k) (c .before .before .before .before .before .before .before .before .before .before .before .before .before .before .before .before .before .before .before .before .loop-test .taken) (c .before .before .before .before .before .before .before .before .before .before .before .before .before .before .before .before .before .before .wide .ensures) (c .before .before .before .before .before .before .before .before .before .before .before .before .before .isolate .ensures) (c .before .before .before .before .before .before .before .before .act .ensures .0) ∙ l .inv .0,
       sized-kept (a .table .now) (a .stride) (a .strength .now) (l .partition) (l .first) (l .exits) (l .strengths) (c .before .before .before .before .before .before .before .before .act .last .1 .1 .1 .1 .0) (c .before .before .before .before .before .before .before .before .act .last .1 .1 .1 .1 .1 .0) (c .before .before .before .before .before .before .before .before .act .last .1 .1 .1 .1 .1 .1 .0) (c .before .before .before .before .before .before .before .before .act .last .1 .1 .1 .1 .1 .1 .1 .0) (l .inv .1) (c .before .before .before .before .before .before .before .before .act .kept .1 .1 .1 .1 .0) (c .before .before .before .before .before .before .before .before .act .kept .1 .1 .1 .1 .1 .0) (c .before .before .before .before .before .before .before .before .act .kept .1 .1 .1 .1 .1 .1 .0) (c .before .before .before .before .before .before .before .before .act .kept .1 .1 .1 .1 .1 .1 .1 .0),
       c .before .before .before .before .before .before .before .before .act .ensures .1,
       c .before .before .before .before .before .before .before .before .act .kept .1 .1 .1 .1 .0 ∙ l .inv .3,
@@ -59,7 +59,7 @@ loop-again c =
       c .before .before .before .before .before .before .before .before .act .kept .1 .1 .1 .1 .1 .1 .0 ∙ l .inv .5,
       c .before .before .before .before .before .before .before .before .act .kept .1 .1 .1 .1 .1 .1 .1 .0 ∙ l .inv .6,
       omega arith,
-      act-isolate-at-most (l .i) (netOf (a .table .now) (a .stride) (a .strength .now) (a .d)) (passOf (l .partition) (l .exits) (l .strengths) (l .w)) _ (l .inv .8) (c .before .before .before .before .before .before .before .before .before .before .before .before .before .isolate .ensures) (c .before .before .before .before .before .before .before .before .act .ensures .0),
+      act-isolate-at-most (l .k) (netOf (a .table .now) (a .stride) (a .strength .now) (a .d)) (passOf (l .partition) (l .exits) (l .strengths) (l .w)) _ (l .inv .8) (c .before .before .before .before .before .before .before .before .before .before .before .before .before .isolate .ensures) (c .before .before .before .before .before .before .before .before .act .ensures .0),
     )
 
 same-length : tie.Need-same-length Inv-loop μ-loop
@@ -78,7 +78,7 @@ returns : tie.Need-returns Inv-loop μ-loop
 returns c =
     let a = c .before .before .before .before .before .before .before .before .before .args in
     let l = c .before .loop in
-    (pass-end isolate (netOf (a .table .now) (a .stride) (a .strength .now) (a .d)) (passOf (l .partition) (l .exits) (l .strengths) (l .w)) (a .order .now) (l .i) (c .loop-test .left) ∙ l .inv .0, l .inv .2)
+    (pass-end isolate (netOf (a .table .now) (a .stride) (a .strength .now) (a .d)) (passOf (l .partition) (l .exits) (l .strengths) (l .w)) (a .order .now) (l .k) (c .loop-test .left) ∙ l .inv .0, l .inv .2)
 
 pub isolation-pass-spec : {M : Type 1} → statement M
 isolation-pass-spec =
@@ -92,7 +92,7 @@ isolation-pass-spec =
     wide-requires
     isolate-requires
     act-requires
-    add-i
+    add-k
     loop-less
     loop-again
     same-length
