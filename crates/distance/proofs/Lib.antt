@@ -2,3 +2,4 @@
 pub mod Size
 pub mod Symmetric
 pub mod Bound
+pub mod Limit

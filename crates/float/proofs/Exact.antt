@@ -1,19 +1,23 @@
 -- Sums and differences of floats that are whole numbers. A sum of two whole numbers is that whole number, rounded once (`add-like`, `add-fall`, `add-under`, `add-rise`,
 -- `add-sink`); whole numbers of size up to 2 ^ 53 are held, so their sums and differences of that size are exact (`whole-add`, `whole-sub`, `whole-difference`). A difference of equal numbers is
--- +0.0, and -0.0 comes only from two negative zeros. Assumes nothing.
-use mathlib.Core.Path.{_≡_, refl, sym, ap, _∙_, subst}
-use Prim.Native.Nat.{ℕ, zero, suc, _+_, _-_, _*_, _^_, _≤_, _<_}
-use native.Mathlib.Nat.{mul-pos, zero-lt-suc, mul-one, mul-assoc, mul-comm, mul-right-comm, add-mul, mul-le-mul-right, not-le-of-lt, mul-lt-mul-of-pos-right, mul-sub}
+-- +0.0, and -0.0 comes only from two negative zeros. `add-minus-minus` and `add-plus-minus` are the changes of an exit weight by a move. The order of whole floats is that of
+-- the numbers (`whole-lt`, `whole-le`). Assumes nothing.
+use mathlib.Core.Path.{_≡_, refl, sym, ap, ap₂, _∙_}
+use Prim.Native.Nat.{ℕ, suc, _+_, _-_, _*_, _^_, _≤_, _<_}
+use native.Mathlib.Nat.{mul-pos, zero-lt-suc, mul-one, mul-assoc, mul-comm, add-mul, mul-le-mul-right, not-le-of-lt, mul-lt-mul-of-pos-right, mul-sub, lt-of-mul-lt-mul-right}
+use native.Mathlib.Decide.{decLe}
 use native.Mathlib.Omega.{arith}
-use mathlib.Core.Bool.{Bool, true, false, not, _&&_, cond}
-use lib.IntN.{ℤ, pos, negsuc}
-use lib.Dec.{T, ltb, leb, ltb→lt, lt→ltb, nltb→le, leb→le, nleb→lt}
-use lib.Ieee.{Float, nan, inf, fin, Format, binary64, prec, up, down, minus, round, sum, add, sub, neg, ofInt}
+use mathlib.Core.Bool.{Bool, true, false, not, cond}
+use lib.IntN.{pos, negsuc}
+use lib.Dec.{T, ltb, leb, ltb→lt, lt→ltb, nltb→le, leb→le, nleb→lt, le→leb}
+use lib.Ieee.{Float, nan, inf, fin, Format, binary64, up, down, minus, round, sum, add, sub, neg, below, lt, le, isNan, ofInt, ofBits}
 use lib.Ieee.Fits.{down-pos}
+use lib.Arith.{le→nltb}
 use lib.Ieee.Exact.{HasValue}
 use lib.Ieee.Scale.{round-same}
 use lib.Ieee.Back.{round-whole}
-use Rattle.float.specs.Binary64.{add64, sub64, whole64}
+use Rattle.float.proofs.Order.{same-truth, le-is}
+use Rattle.float.specs.Binary64.{add64, sub64, whole64, zero64}
 
 -- x is the whole number a with the sign s
 abbrev pub Is : Float → Bool → ℕ → Type 0
@@ -160,3 +164,81 @@ whole-difference a b h k = go (leb b a) (leb→le b a) (nleb→lt b a)
     go : (t : Bool) → (T t → b ≤ a) → (T (not t) → a < b) → sub64 (whole64 a) (whole64 b) ≡ ofInt binary64 (cond t (pos (a - b)) (negsuc (b - suc a)))
     go true y n = whole-sub a b h (y tt)
     go false y n = negative (n tt)
+
+pub zero-whole : zero64 ≡ whole64 0
+unfolding ofInt ofBits
+zero-whole = refl
+
+-- e + ((-b - c) + a)
+pub add-minus-minus : (e a b c : ℕ) → e ≤ most → a ≤ most → b + c ≤ most → b + c ≤ e + a
+    → add64 (whole64 e) (add64 (sub64 (neg (whole64 b)) (whole64 c)) (whole64 a)) ≡ whole64 (e + a - (b + c))
+unfolding sub
+add-minus-minus e a b c he ha hbc le =
+    let nb : Is (neg (whole64 b)) true b = is-neg (whole64 b) false b (is-whole b (omega arith)) in
+    let nc : Is (neg (whole64 c)) true c = is-neg (whole64 c) false c (is-whole c (omega arith)) in
+    ap (λ (w : Float). add64 (whole64 e) (add64 w (whole64 a))) (add-like binary64 (neg (whole64 b)) (neg (whole64 c)) true b c nb nc) ∙ go (decLe (b + c) a)
+  where
+    go : Dec (b + c ≤ a) → add64 (whole64 e) (add64 (round binary64 true (b + c) 1) (whole64 a)) ≡ whole64 (e + a - (b + c))
+    go (yes q) =
+        ap (λ (w : Float). add64 (whole64 e) w) (add-rise binary64 (round binary64 true (b + c) 1) (whole64 a) (b + c) a (is-round true (b + c) hbc) (is-whole a ha) q)
+        ∙ add-like binary64 (whole64 e) (round binary64 false (a - (b + c)) 1) false e (a - (b + c)) (is-whole e he) (is-round false (a - (b + c)) (omega arith))
+        ∙ sym (whole-round (e + (a - (b + c))))
+        ∙ ap whole64 (omega arith)
+    go (no q) =
+        ap (λ (w : Float). add64 (whole64 e) w) (add-sink binary64 (round binary64 true (b + c) 1) (whole64 a) (b + c) a (is-round true (b + c) hbc) (is-whole a ha) (omega arith))
+        ∙ add-fall binary64 (whole64 e) (round binary64 true (b + c - a) 1) e (b + c - a) (is-whole e he) (is-round true (b + c - a) (omega arith)) (omega arith)
+        ∙ sym (whole-round (e - (b + c - a)))
+        ∙ ap whole64 (omega arith)
+
+-- e + ((a + c) - b)
+pub add-plus-minus : (e a b c : ℕ) → e ≤ most → a + c ≤ most → b ≤ most → b ≤ e + (a + c)
+    → add64 (whole64 e) (sub64 (add64 (whole64 a) (whole64 c)) (whole64 b)) ≡ whole64 (e + (a + c) - b)
+unfolding sub
+add-plus-minus e a b c he hac hb le = ap (λ (w : Float). add64 (whole64 e) (sub64 w (whole64 b))) (whole-add a c (omega arith) (omega arith)) ∙ go (decLe b (a + c))
+  where
+    nb : Is (neg (whole64 b)) true b
+    nb = is-neg (whole64 b) false b (is-whole b hb)
+
+    go : Dec (b ≤ a + c) → add64 (whole64 e) (add64 (whole64 (a + c)) (neg (whole64 b))) ≡ whole64 (e + (a + c) - b)
+    go (yes q) =
+        ap (λ (w : Float). add64 (whole64 e) w) (add-fall binary64 (whole64 (a + c)) (neg (whole64 b)) (a + c) b (is-whole (a + c) hac) nb q)
+        ∙ add-like binary64 (whole64 e) (round binary64 false (a + c - b) 1) false e (a + c - b) (is-whole e he) (is-round false (a + c - b) (omega arith))
+        ∙ sym (whole-round (e + (a + c - b)))
+        ∙ ap whole64 (omega arith)
+    go (no q) =
+        ap (λ (w : Float). add64 (whole64 e) w) (add-under binary64 (whole64 (a + c)) (neg (whole64 b)) (a + c) b (is-whole (a + c) hac) nb (omega arith))
+        ∙ add-fall binary64 (whole64 e) (round binary64 true (b - (a + c)) 1) e (b - (a + c)) (is-whole e he) (is-round true (b - (a + c)) (omega arith)) (omega arith)
+        ∙ sym (whole-round (e - (b - (a + c))))
+        ∙ ap whole64 (omega arith)
+
+-- ---- order
+
+scaled-lt : (a b c : ℕ) → 0 < c → ltb (a * c) (b * c) ≡ ltb a b
+scaled-lt a b c p =
+    same-truth (ltb (a * c) (b * c)) (ltb a b) (λ t. lt→ltb a b (lt-of-mul-lt-mul-right c (ltb→lt (a * c) (b * c) t))) (λ t. lt→ltb (a * c) (b * c) (mul-lt-mul-of-pos-right (ltb→lt a b t) p))
+
+is-lt : (x y : Float) (a b : ℕ) → Is x false a → Is y false b → lt x y ≡ ltb a b
+unfolding lt
+is-lt nan y a b h k = absurd h
+is-lt (inf s) y a b h k = absurd h
+is-lt (fin s m e) nan a b h k = absurd k
+is-lt (fin s m e) (inf t) a b h k = absurd k
+is-lt (fin s m e) (fin t n d) a b h k =
+    ap₂ (λ (u v : Bool). below u (m * up e * down d) v (n * up d * down e)) (h .0) (k .0)
+    ∙ ap₂ ltb (part m (up e) a (down e) (down d) (h .1)) (part' n (up d) b (down d) (down e) (k .1))
+    ∙ scaled-lt a b (down e * down d) (mul-pos (down-pos e) (down-pos d))
+
+pub whole-lt : (a b : ℕ) → a ≤ most → b ≤ most → lt (whole64 a) (whole64 b) ≡ ltb a b
+whole-lt a b h k = is-lt (whole64 a) (whole64 b) a b (is-whole a h) (is-whole b k)
+
+is-number : (x : Float) (s : Bool) (a : ℕ) → Is x s a → T (not (isNan x))
+unfolding isNan
+is-number nan s a h = absurd h
+is-number (inf t) s a h = tt
+is-number (fin t m e) s a h = tt
+
+pub whole-le : (a b : ℕ) → a ≤ most → b ≤ most → le (whole64 a) (whole64 b) ≡ leb a b
+whole-le a b h k =
+    le-is (whole64 a) (whole64 b) (is-number (whole64 a) false a (is-whole a h)) (is-number (whole64 b) false b (is-whole b k))
+    ∙ ap not (whole-lt b a k h)
+    ∙ same-truth (not (ltb b a)) (leb a b) (λ t. le→leb a b (nltb→le b a t)) (λ t. le→nltb b a (leb→le a b t))

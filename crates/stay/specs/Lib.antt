@@ -1,0 +1,5 @@
+pub mod Ordered
+pub mod Trace
+pub mod Stays
+pub mod Regions
+pub mod Steps

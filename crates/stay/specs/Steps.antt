@@ -1,0 +1,93 @@
+-- What the steps of `stays` ensure: the state that its slices stand for, and what each step makes of it. Definitions only.
+use Prim.Native.Nat.{ℕ, zero, suc, _+_, _-_, _*_, _/_, _≤_, _<_, _^_}
+use mathlib.Core.Path.{_≡_}
+use mathlib.Core.Bool.{Bool, true, false, not, _&&_, _||_, cond}
+use mathlib.Core.List.{List, [], _∷_, _++_, map}
+use lib.Dec.{leb, eqb}
+use lib.IntN.{ℤ}
+use lib.ListN.{length, take, drop, set, getD, replicate}
+use lib.Ieee.{Float, nan, le, sub}
+use Rattle.float.specs.Binary64.{sub64, zero64}
+use Rattle.distance.specs.declared.Point.{Point}
+use Rattle.stay.specs.declared.StaySettings.{StaySettings}
+use Rattle.stay.specs.declared.Open.{Open}
+use Rattle.stay.specs.Ordered.{insertOrdered, median, inOrder}
+use Rattle.stay.specs.Regions.{part}
+use Rattle.stay.specs.Stays.{eventNumber, stayMedians, eventMap}
+use Rattle.stay.specs.Trace.{Fix, fixes}
+
+-- Whether all marks are 1.
+unfoldable pub allMarked : List ℕ → Bool
+allMarked [] = true
+allMarked (m ∷ ms) = eqb m 1 && allMarked ms
+
+-- The time at b less that at a. Times are not looked at unless all are marked.
+unfoldable pub elapsed : Bool → List Float → ℕ → ℕ → Float
+unfolding sub
+elapsed t ts a b = cond t (sub64 (getD ts b nan) (getD ts a nan)) zero64
+
+-- The tests of joining and of acceptance, on numbers.
+unfoldable pub joinTest : Bool → StaySettings → Float → Float → Bool
+unfolding le
+joinTest t s d e = le d (s .r1) && (not t || le e (s .«max_time_between»))
+
+unfoldable pub stayTest : Bool → StaySettings → ℕ → Float → Bool
+unfolding le
+stayTest t s n e = leb (s .«min_size») n && (not t || le (s .«min_staying_time») e)
+
+-- The run's state: where the open group starts, how many stays are before it, its coordinates in order, the numbers of the fixes before it,
+-- and the medians' coordinates.
+pub record State : Type 0 where
+  pub start : ℕ
+  pub stays : ℕ
+  pub gx : List Float
+  pub gy : List Float
+  pub events : List ℤ
+  pub mx : List Float
+  pub my : List Float
+
+-- The state that the slices stand for before fix i.
+unfoldable pub stateOf : ℕ → ℕ → List Float → List ℤ → Open → State
+stateOf q i w l o =
+    record {
+      start = o .start;
+      stays = o .stays;
+      gx = take (i - o .start) (part 0 q w);
+      gy = take (i - o .start) (part q q w);
+      events = take (o .start) l;
+      mx = part (2 * q) q w;
+      my = part (3 * q) q w;
+    }
+
+-- The open group's median.
+unfoldable pub midOf : State → Point
+unfolding median
+midOf st = record { x = median (st .gx); y = median (st .gy) }
+
+-- A point taken in.
+unfoldable pub taken : Point → State → State
+unfolding insertOrdered
+taken p st =
+    record {
+      start = st .start;
+      stays = st .stays;
+      gx = insertOrdered (p .x) (st .gx);
+      gy = insertOrdered (p .y) (st .gy);
+      events = st .events;
+      mx = st .mx;
+      my = st .my;
+    }
+
+-- The open group closed before fix i, as a stay or not.
+unfoldable pub closed : Bool → ℕ → State → State
+unfolding midOf eventNumber
+closed ok i st =
+    record {
+      start = i;
+      stays = cond ok (suc (st .stays)) (st .stays);
+      gx = [];
+      gy = [];
+      events = st .events ++ replicate (i - st .start) (eventNumber ok (st .stays));
+      mx = cond ok (set (st .mx) (st .stays) (midOf st .x)) (st .mx);
+      my = cond ok (set (st .my) (st .stays) (midOf st .y)) (st .my);
+    }
