@@ -2,3 +2,6 @@
 pub mod Order
 pub mod Ordered
 pub mod Shift
+pub mod Regions
+pub mod Loops
+pub mod States

@@ -3,3 +3,4 @@ pub mod Trace
 pub mod Stays
 pub mod Regions
 pub mod Steps
+pub mod Found
