@@ -5,3 +5,7 @@ pub mod Shift
 pub mod Regions
 pub mod Loops
 pub mod States
+pub mod Groups
+pub mod Fixes
+pub mod Run
+pub mod Whole

@@ -253,3 +253,48 @@ fn next(
     insert_both(work, q, 0, p);
     n
 }
+
+// The stays of one trace: `found` is how many the traces before it have. It hands back how many there are, writes for each fix the number of
+// the accepted stay it lies in, or -1, and the stays' medians behind those of the traces before it.
+pub fn stays(
+    xs: &[f64],
+    ys: &[f64],
+    times: &[f64],
+    marks: &[u8],
+    s: StaySettings,
+    work: &mut [f64],
+    found: usize,
+    events: &mut [i32],
+) -> usize
+    requires { ⌜ Lengths (length (now xs)) (length (now ys)) (length (now times)) (length (now marks)) (length (now events)) (length (now work)) found ⌝ }
+    ensures { λ r. ⌜ Found s (fixes (now (xs .entry)) (now (ys .entry)) (now (times .entry)) (now (marks .entry))) found (now (work .entry)) (now (work .exit)) (now (events .exit)) r ⌝ }
+{
+    let n = xs.len();
+    if n == 0 {
+        return 0;
+    }
+    let q = work.len() / 4;
+    let timed = all_marked(marks);
+    insert_both(work, q, 0, Point { x: xs[0], y: ys[0] });
+    let mut o = Open {
+        start: 0,
+        stays: found,
+    };
+    let mut i = 1;
+    while i < n {
+        o = next(
+            Point { x: xs[i], y: ys[i] },
+            times,
+            timed,
+            s,
+            work,
+            events,
+            q,
+            i,
+            o,
+        );
+        i += 1;
+    }
+    let last = close(times, timed, s, work, events, q, n, o);
+    last.stays - found
+}
