@@ -1,19 +1,20 @@
 -- Sums and differences of floats that are whole numbers. A sum of two whole numbers is that whole number, rounded once (`add-like`, `add-fall`, `add-under`, `add-rise`,
 -- `add-sink`); whole numbers of size up to 2 ^ 53 are held, so their sums and differences of that size are exact (`whole-add`, `whole-sub`, `whole-difference`). A difference of equal numbers is
--- +0.0, and -0.0 comes only from two negative zeros. Assumes nothing.
+-- +0.0, and -0.0 comes only from two negative zeros. `add-minus-minus` and `add-plus-minus` are the changes of an exit weight by a move. Assumes nothing.
 use mathlib.Core.Path.{_≡_, refl, sym, ap, _∙_, subst}
 use Prim.Native.Nat.{ℕ, zero, suc, _+_, _-_, _*_, _^_, _≤_, _<_}
 use native.Mathlib.Nat.{mul-pos, zero-lt-suc, mul-one, mul-assoc, mul-comm, mul-right-comm, add-mul, mul-le-mul-right, not-le-of-lt, mul-lt-mul-of-pos-right, mul-sub}
+use native.Mathlib.Decide.{decLe}
 use native.Mathlib.Omega.{arith}
 use mathlib.Core.Bool.{Bool, true, false, not, _&&_, cond}
 use lib.IntN.{ℤ, pos, negsuc}
 use lib.Dec.{T, ltb, leb, ltb→lt, lt→ltb, nltb→le, leb→le, nleb→lt}
-use lib.Ieee.{Float, nan, inf, fin, Format, binary64, prec, up, down, minus, round, sum, add, sub, neg, ofInt}
+use lib.Ieee.{Float, nan, inf, fin, Format, binary64, prec, up, down, minus, round, sum, add, sub, neg, ofInt, ofBits}
 use lib.Ieee.Fits.{down-pos}
 use lib.Ieee.Exact.{HasValue}
 use lib.Ieee.Scale.{round-same}
 use lib.Ieee.Back.{round-whole}
-use Rattle.float.specs.Binary64.{add64, sub64, whole64}
+use Rattle.float.specs.Binary64.{add64, sub64, whole64, zero64}
 
 -- x is the whole number a with the sign s
 abbrev pub Is : Float → Bool → ℕ → Type 0
@@ -160,3 +161,49 @@ whole-difference a b h k = go (leb b a) (leb→le b a) (nleb→lt b a)
     go : (t : Bool) → (T t → b ≤ a) → (T (not t) → a < b) → sub64 (whole64 a) (whole64 b) ≡ ofInt binary64 (cond t (pos (a - b)) (negsuc (b - suc a)))
     go true y n = whole-sub a b h (y tt)
     go false y n = negative (n tt)
+
+pub zero-whole : zero64 ≡ whole64 0
+unfolding ofInt ofBits
+zero-whole = refl
+
+-- e + ((-b - c) + a)
+pub add-minus-minus : (e a b c : ℕ) → e ≤ most → a ≤ most → b + c ≤ most → b + c ≤ e + a
+    → add64 (whole64 e) (add64 (sub64 (neg (whole64 b)) (whole64 c)) (whole64 a)) ≡ whole64 (e + a - (b + c))
+unfolding sub
+add-minus-minus e a b c he ha hbc le =
+    let nb : Is (neg (whole64 b)) true b = is-neg (whole64 b) false b (is-whole b (omega arith)) in
+    let nc : Is (neg (whole64 c)) true c = is-neg (whole64 c) false c (is-whole c (omega arith)) in
+    ap (λ (w : Float). add64 (whole64 e) (add64 w (whole64 a))) (add-like binary64 (neg (whole64 b)) (neg (whole64 c)) true b c nb nc) ∙ go (decLe (b + c) a)
+  where
+    go : Dec (b + c ≤ a) → add64 (whole64 e) (add64 (round binary64 true (b + c) 1) (whole64 a)) ≡ whole64 (e + a - (b + c))
+    go (yes q) =
+        ap (λ (w : Float). add64 (whole64 e) w) (add-rise binary64 (round binary64 true (b + c) 1) (whole64 a) (b + c) a (is-round true (b + c) hbc) (is-whole a ha) q)
+        ∙ add-like binary64 (whole64 e) (round binary64 false (a - (b + c)) 1) false e (a - (b + c)) (is-whole e he) (is-round false (a - (b + c)) (omega arith))
+        ∙ sym (whole-round (e + (a - (b + c))))
+        ∙ ap whole64 (omega arith)
+    go (no q) =
+        ap (λ (w : Float). add64 (whole64 e) w) (add-sink binary64 (round binary64 true (b + c) 1) (whole64 a) (b + c) a (is-round true (b + c) hbc) (is-whole a ha) (omega arith))
+        ∙ add-fall binary64 (whole64 e) (round binary64 true (b + c - a) 1) e (b + c - a) (is-whole e he) (is-round true (b + c - a) (omega arith)) (omega arith)
+        ∙ sym (whole-round (e - (b + c - a)))
+        ∙ ap whole64 (omega arith)
+
+-- e + ((a + c) - b)
+pub add-plus-minus : (e a b c : ℕ) → e ≤ most → a + c ≤ most → b ≤ most → b ≤ e + (a + c)
+    → add64 (whole64 e) (sub64 (add64 (whole64 a) (whole64 c)) (whole64 b)) ≡ whole64 (e + (a + c) - b)
+unfolding sub
+add-plus-minus e a b c he hac hb le = ap (λ (w : Float). add64 (whole64 e) (sub64 w (whole64 b))) (whole-add a c (omega arith) (omega arith)) ∙ go (decLe b (a + c))
+  where
+    nb : Is (neg (whole64 b)) true b
+    nb = is-neg (whole64 b) false b (is-whole b hb)
+
+    go : Dec (b ≤ a + c) → add64 (whole64 e) (add64 (whole64 (a + c)) (neg (whole64 b))) ≡ whole64 (e + (a + c) - b)
+    go (yes q) =
+        ap (λ (w : Float). add64 (whole64 e) w) (add-fall binary64 (whole64 (a + c)) (neg (whole64 b)) (a + c) b (is-whole (a + c) hac) nb q)
+        ∙ add-like binary64 (whole64 e) (round binary64 false (a + c - b) 1) false e (a + c - b) (is-whole e he) (is-round false (a + c - b) (omega arith))
+        ∙ sym (whole-round (e + (a + c - b)))
+        ∙ ap whole64 (omega arith)
+    go (no q) =
+        ap (λ (w : Float). add64 (whole64 e) w) (add-under binary64 (whole64 (a + c)) (neg (whole64 b)) (a + c) b (is-whole (a + c) hac) nb (omega arith))
+        ∙ add-fall binary64 (whole64 e) (round binary64 true (b - (a + c)) 1) e (b - (a + c)) (is-whole e he) (is-round true (b - (a + c)) (omega arith)) (omega arith)
+        ∙ sym (whole-round (e - (b - (a + c))))
+        ∙ ap whole64 (omega arith)

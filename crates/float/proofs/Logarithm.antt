@@ -1,4 +1,4 @@
--- The k and m of `ln`: p = 2 ^ k * m with 0.75 ≤ m < 1.5 (`split`), and how they are read off the bits of p (`ln-bits`). Assumes nothing.
+-- How the k and m of `ln` are read off the bits of p (`ln-low`, `ln-high`). What they are is in `proofs/Split.antt`. Assumes nothing.
 use mathlib.Core.Path.{_≡_, refl, sym, ap, _∙_, subst}
 use Prim.Native.Nat.{ℕ, zero, suc, _+_, _-_, _*_, _/_, _%_, _^_, _≤_, _<_, zero-le}
 use native.Mathlib.Nat.{le-of-suc-le-suc, lt-irrefl, lt-of-not-le, lt-of-lt-of-le, lt-of-le-of-lt, le-trans, le-of-eq, mul-assoc, mul-comm, mul-right-comm, mul-one, mul-le-mul-right, mul-le-mul-left, mul-lt-mul-of-pos-right, mul-pos, zero-lt-suc, eq-of-mul-eq-mul-right, zero-mul}
@@ -161,7 +161,7 @@ mantissa-value n m d s k l e h = (
         turn d l k s h = omega arith
 
 -- the format holds n / 2 ^ s where it holds n * 2 ^ e
-mantissa-fits : (n s : ℕ) (e : ℤ) → s ≤ 1074 → T (fits binary64 (fin false (suc n) e)) → (suc n < 2 ^ 53) × T (fits binary64 (fin false (suc n) (minus 0 s)))
+pub mantissa-fits : (n s : ℕ) (e : ℤ) → s ≤ 1074 → T (fits binary64 (fin false (suc n) e)) → (suc n < 2 ^ 53) × T (fits binary64 (fin false (suc n) (minus 0 s)))
 unfolding fits
 mantissa-fits n s e h t =
     let a : Bool = eqb (suc n % 2) 1 in
@@ -180,14 +180,14 @@ mantissa-fits n s e h t =
 
 -- ---- which power of two m is divided by
 
-shift-low : (n : ℕ) → 2 * n < 3 * 2 ^ (size n - 1) → shift n ≡ size n - 1 + 0
+pub shift-low : (n : ℕ) → 2 * n < 3 * 2 ^ (size n - 1) → shift n ≡ size n - 1 + 0
 unfolding shift
 shift-low n h = ap (λ (t : Bool). cond t (size n - 1) (suc (size n - 1))) (is-true (ltb (2 * n) (3 * 2 ^ (size n - 1))) (lt→ltb (2 * n) (3 * 2 ^ (size n - 1)) h)) ∙ plain (size n - 1)
   where
     plain : (d : ℕ) → d ≡ d + 0
     plain d = omega arith
 
-shift-high : (n : ℕ) → 3 * 2 ^ (size n - 1) ≤ 2 * n → shift n ≡ size n - 1 + 1
+pub shift-high : (n : ℕ) → 3 * 2 ^ (size n - 1) ≤ 2 * n → shift n ≡ size n - 1 + 1
 unfolding shift
 shift-high n h = ap (λ (t : Bool). cond t (size n - 1) (suc (size n - 1))) (is-false (ltb (2 * n) (3 * 2 ^ (size n - 1))) (le→nltb (2 * n) (3 * 2 ^ (size n - 1)) h)) ∙ next (size n - 1)
   where

@@ -2,7 +2,8 @@
 use Prim.Native.Nat.{ℕ}
 use mathlib.Core.Bool.{Bool, true, false}
 use lib.IntN.{pos}
-use lib.Ieee.{Float, nan, inf, fin, binary64, add, sub, mul, div, ofInt, ofBits}
+use lib.Dec.{eqb}
+use lib.Ieee.{Float, nan, inf, fin, binary64, add, sub, mul, div, ofInt, toBits, ofBits}
 
 abbrev pub add64 : Float → Float → Float
 add64 = add binary64
@@ -40,3 +41,8 @@ unfoldable pub finite : Float → Bool
 finite nan = false
 finite (inf s) = false
 finite (fin s m e) = true
+
+-- Whether the bit patterns of x and y agree.
+unfoldable pub sameBits : Float → Float → Bool
+unfolding toBits
+sameBits x y = eqb (toBits binary64 x) (toBits binary64 y)

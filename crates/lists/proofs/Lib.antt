@@ -1,3 +1,4 @@
 pub mod Tests
 pub mod Upto
 pub mod Members
+pub mod Sums

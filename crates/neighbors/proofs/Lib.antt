@@ -1,0 +1,11 @@
+pub mod SameBits
+pub mod Search
+pub mod Sighted
+pub mod Found
+pub mod Cells
+pub mod Linked
+pub mod LinkWeights
+pub mod Selected
+pub mod NodeList
+pub mod Compact
+pub mod NodeTable

@@ -1,0 +1,56 @@
+-- `neighbors::nodes::find_nodes` meets its contract.
+use mathlib.Core.Path.{_≡_, refl, sym, _∙_}
+use Prim.Native.Nat.{_-_, _≤_}
+use native.Mathlib.Omega.{arith}
+use lib.ListN.{length}
+use Rattle.neighbors.specs.Tables.{hasWeight, rowsWithWeight}
+use Rattle.neighbors.proofs.Selected.{Selected, select-start, select-on, select-end}
+use borrow.Author.Needs.{needs}
+use Rattle.neighbors.proofs.nodes.find_nodes.Statement.{statement}
+use Rattle.neighbors.proofs.nodes.find_nodes.Tie as tie
+
+abbrev Inv-loop : tie.InvT-loop
+Inv-loop table n nodes₀ k₀ i₀ nodes k i = (Selected (hasWeight n table) n nodes k i) × (length nodes ≡ length nodes₀) × (i ≤ n)
+
+abbrev μ-loop : tie.MeasureT-loop
+μ-loop table n nodes₀ k₀ i₀ nodes k i = n - i
+
+loop-holds : tie.Need-loop-holds Inv-loop μ-loop
+loop-holds c = (select-start _ _ _, refl, omega arith)
+
+has-weight-requires : tie.Need-has-weight-requires Inv-loop μ-loop
+has-weight-requires c κs = search needs
+
+put-if-requires : tie.Need-put-if-requires Inv-loop μ-loop
+put-if-requires c κs = (omega (arith, c .before .before .before .loop .inv .0 .few), omega arith)
+
+add-i : tie.Need-add-i Inv-loop μ-loop
+add-i c = search needs
+
+loop-less : tie.Need-loop-less Inv-loop μ-loop
+loop-less c = search needs
+
+loop-again : tie.Need-loop-again Inv-loop μ-loop
+loop-again c = (select-on _ _ _ _ _ (c .before .before .before .before .before .before .loop .inv .0) (c .before .before .before .before .before .loop-test .taken) (omega arith) (c .before .before .before .before .has-weight .ensures) (c .before .before .put-if .ensures), omega arith, omega arith)
+
+same-length : tie.Need-same-length Inv-loop μ-loop
+same-length c = search needs
+
+returns : tie.Need-returns Inv-loop μ-loop
+unfolding rowsWithWeight
+returns c = select-end _ _ _ _ _ refl (c .before .loop .inv .0) (c .before .loop .inv .2) (c .loop-test .left) (omega arith)
+
+pub find-nodes-spec : {M : Type 1} → statement M
+find-nodes-spec =
+    tie.close
+    (tie.spec
+    Inv-loop
+    μ-loop
+    loop-holds
+    has-weight-requires
+    put-if-requires
+    add-i
+    loop-less
+    loop-again
+    same-length
+    returns)

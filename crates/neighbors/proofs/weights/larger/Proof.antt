@@ -1,0 +1,13 @@
+-- `neighbors::weights::larger` meets its contract.
+use borrow.Author.Needs.{needs}
+use Rattle.neighbors.proofs.weights.larger.Statement.{statement}
+use Rattle.neighbors.proofs.weights.larger.Tie as tie
+
+returns : tie.Need-returns
+returns c = search needs
+
+returns-2 : tie.Need-returns-2
+returns-2 c = search needs
+
+pub larger-spec : {M : Type 1} → statement M
+larger-spec = tie.close (tie.spec returns returns-2)

@@ -1,0 +1,73 @@
+-- Distinct medians (document 01, "Distinct medians"). Definitions only.
+use Prim.Native.Nat.{ℕ, zero, suc, _+_}
+use mathlib.Core.Bool.{Bool, _&&_, cond}
+use mathlib.Core.List.{List, [], _∷_}
+use lib.Dec.{leb}
+use lib.ListN.{length, getD, take}
+use lib.Ieee.{Float}
+use Rattle.float.specs.Binary64.{zero64, sameBits}
+use Rattle.distance.specs.declared.Point.{Point}
+use Rattle.neighbors.specs.declared.places.PlaceCount.{PlaceCount}
+use Rattle.neighbors.specs.declared.places.PlaceCount.the-variants.{Places, TooMany}
+
+-- Two medians are one place if both bit patterns agree, so 0.0 and -0.0 differ.
+unfoldable pub samePlace : Point → Point → Bool
+samePlace p q = sameBits (p .x) (q .x) && sameBits (p .y) (q .y)
+
+-- A distinct median, with the count of its stays.
+pub record Place : Type 0 where
+  pub at : Point
+  pub count : ℕ
+
+-- The places after one more stay with the median m: counted at its place, or a new place behind the others.
+unfoldable pub sighted : List Place → Point → List Place
+sighted [] m = record { at = m; count = 1 } ∷ []
+sighted (p ∷ ps) m = let r = p ∷ sighted ps m in cond (samePlace (p .at) m) (record { at = p .at; count = suc (p .count) } ∷ ps) r
+
+unfoldable pub sightedAll : List Place → List Point → List Place
+sightedAll ps [] = ps
+sightedAll ps (m ∷ ms) = sightedAll (sighted ps m) ms
+
+-- The places of medians in order, numbered by first sight.
+unfoldable pub places : List Point → List Place
+places ms = sightedAll [] ms
+
+-- The number of the place of m; how many places there are where m has none.
+unfoldable pub placeOf : List Place → Point → ℕ
+placeOf [] m = 0
+placeOf (p ∷ ps) m = let r = suc (placeOf ps m) in cond (samePlace (p .at) m) 0 r
+
+abbrev pub noPlace : Place
+noPlace = record { at = record { x = zero64; y = zero64 }; count = 0 }
+
+-- Place i.
+abbrev pub placeAt : List Place → ℕ → Place
+placeAt ps i = getD ps i noPlace
+
+-- All stays of all places.
+unfoldable pub stayCount : List Place → ℕ
+stayCount [] = 0
+stayCount (p ∷ ps) = p .count + stayCount ps
+
+-- ---- what slices hold
+
+-- The points of two slices of coordinates.
+unfoldable pub points : List Float → List Float → List Point
+points [] ys = []
+points (x ∷ xs) [] = []
+points (x ∷ xs) (y ∷ ys) = record { x = x; y = y } ∷ points xs ys
+
+-- The places of slices of coordinates and counts.
+unfoldable pub placesIn : List Float → List Float → List ℕ → List Place
+placesIn [] ys cs = []
+placesIn (x ∷ xs) [] cs = []
+placesIn (x ∷ xs) (y ∷ ys) [] = []
+placesIn (x ∷ xs) (y ∷ ys) (c ∷ cs) = record { at = record { x = x; y = y }; count = c } ∷ placesIn xs ys cs
+
+-- The n places at the front of longer slices.
+abbrev pub front : List Float → List Float → List ℕ → ℕ → List Place
+front xs ys cs n = placesIn (take n xs) (take n ys) (take n cs)
+
+-- How many places there are, or more than the caller's cap (document 01's 19).
+unfoldable pub distinctWithin : ℕ → List Place → PlaceCount
+distinctWithin cap ps = cond (leb (length ps) cap) (Places (length ps)) TooMany

@@ -1,0 +1,64 @@
+-- `replay::first_digit` meets its contract: the first digit after each byte passed is that after `at`. Assumes nothing.
+use mathlib.Core.Path.{_≡_, refl, sym, ap, _∙_}
+use Prim.Native.Nat.{ℕ, _+_, _-_}
+use native.Mathlib.Omega.{arith}
+use lib.ListN.{length, drop, getD}
+use borrow.Author.Needs.{needs}
+use Rattle.replay.specs.Numbers.{start}
+use Rattle.replay.proofs.Digits.{before-on, before-stop, before-end}
+use Rattle.replay.proofs.first_digit.Statement.{statement}
+use Rattle.replay.proofs.first_digit.Tie as tie
+use Rattle.replay.proofs.first_digit.Reads as reads
+use Rattle.replay.proofs.first_digit.Lts as lts
+use Rattle.replay.proofs.is_digit.Reads as is-digit-reads
+
+abbrev Inv-loop : tie.InvT-loop
+Inv-loop text at i₀ i = start text i ≡ start text at
+
+abbrev μ-loop : tie.MeasureT-loop
+μ-loop text at i₀ i = length text - i
+
+loop-holds : tie.Need-loop-holds Inv-loop μ-loop
+loop-holds c = search needs
+
+shared-slice-read-is-digit : tie.Need-shared-slice-read-is-digit Inv-loop μ-loop
+shared-slice-read-is-digit c = omega arith
+
+is-digit-requires : tie.Need-is-digit-requires Inv-loop μ-loop
+is-digit-requires c κs = search needs
+
+returns : tie.Need-returns Inv-loop μ-loop
+returns c =
+    let l = c .before .before .before .before in
+    let s = l .before .before in
+    before-stop (s .args .text .now) (l .loop .i) (c .before .before .before .loop-test .taken) (sym (c .before .is-digit .ensures) ∙ c .if1 .taken) ∙ l .loop .inv
+
+add-i : tie.Need-add-i Inv-loop μ-loop
+add-i c = omega arith
+
+loop-less : tie.Need-loop-less Inv-loop μ-loop
+loop-less c = omega arith
+
+loop-again : tie.Need-loop-again Inv-loop μ-loop
+loop-again c =
+    let l = c .before .before .before .before in
+    let s = l .before .before in
+    before-on (s .args .text .now) (l .loop .i) (c .before .before .before .loop-test .taken) (sym (c .before .is-digit .ensures) ∙ c .if1 .left) ∙ l .loop .inv
+
+returns-2 : tie.Need-returns-2 Inv-loop μ-loop
+returns-2 c = let l = c .before in before-end (l .before .before .args .text .now) (l .loop .i) (c .loop-test .left) ∙ l .loop .inv
+
+pub first-digit-spec : {M : Type 1} → statement M
+first-digit-spec =
+    tie.close
+    (tie.spec
+    Inv-loop
+    μ-loop
+    loop-holds
+    shared-slice-read-is-digit
+    is-digit-requires
+    returns
+    add-i
+    loop-less
+    loop-again
+    returns-2)

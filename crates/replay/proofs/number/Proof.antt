@@ -1,0 +1,28 @@
+-- `replay::number` meets its contract. Assumes nothing.
+use mathlib.Core.Path.{_≡_, ap, _∙_}
+use Prim.Native.Nat.{ℕ, _+_}
+use lib.ListN.{drop}
+use Rattle.replay.specs.Numbers.{digits, value}
+use borrow.Author.Needs.{needs}
+use Rattle.replay.proofs.number.Statement.{statement}
+use Rattle.replay.proofs.number.Tie as tie
+use Rattle.replay.proofs.number.Reads as reads
+use Rattle.replay.proofs.number.Lts as lts
+use Rattle.replay.proofs.first_digit.Reads as first-digit-reads
+use Rattle.replay.proofs.number_at.Reads as number-at-reads
+
+first-digit-requires : tie.Need-first-digit-requires
+first-digit-requires c κs = search needs
+
+number-at-requires : tie.Need-number-at-requires
+number-at-requires c κs = search needs
+
+returns : tie.Need-returns
+returns c =
+    let t = c .before .before .before .args .text .now in (
+      c .number-at .ensures .0 ∙ ap (λ (i : ℕ). value 0 (drop i t)) (c .before .first-digit .ensures),
+      c .number-at .ensures .1 ∙ ap (λ (i : ℕ). i + digits (drop i t)) (c .before .first-digit .ensures),
+    )
+
+pub number-spec : {M : Type 1} → statement M
+number-spec = tie.close (tie.spec first-digit-requires number-at-requires returns)

@@ -1,0 +1,39 @@
+-- `replay::print_label` is safe. Assumes nothing.
+use mir.Facts.{toZ-ofZ}
+use Rattle.replay.proofs.Digits.{as-number}
+use borrow.Author.Needs.{needs}
+use Rattle.replay.proofs.print_label.Statement.{statement}
+use Rattle.replay.proofs.print_label.Tie as tie
+use Rattle.replay.proofs.print_label.Reads as reads
+use Rattle.replay.proofs.print_label.Lts as lts
+use Rattle.io.proofs.write_all.Reads as write-all-reads
+use Rattle.replay.proofs.print_number.Reads as print-number-reads
+
+slice-aggregate-write-all : tie.Need-slice-aggregate-write-all
+slice-aggregate-write-all c = search needs
+
+write-all-requires : tie.Need-write-all-requires
+write-all-requires c κs = search needs
+
+cast-print-number : tie.Need-cast-print-number
+cast-print-number c = rw (toZ-ofZ (c .before .fits .n)) (as-number _ (rw (toZ-ofZ (c .before .fits .n)) at (c .if1 .left)) (c .before .fits .n))
+
+print-number-requires : tie.Need-print-number-requires
+print-number-requires c κs = search needs
+
+returns : tie.Need-returns
+returns c = search needs
+
+returns-2 : tie.Need-returns-2
+returns-2 c = search needs
+
+pub print-label-spec : {M : Type 1} → statement M
+print-label-spec =
+    tie.close
+    (tie.spec
+    slice-aggregate-write-all
+    write-all-requires
+    cast-print-number
+    print-number-requires
+    returns
+    returns-2)
