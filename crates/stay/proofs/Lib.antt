@@ -1,5 +1,5 @@
 -- Lemmas that belong to no one function.
-pub mod Order
+pub mod AtMost
 pub mod Ordered
 pub mod Shift
 pub mod Regions
@@ -9,3 +9,4 @@ pub mod Groups
 pub mod Fixes
 pub mod Run
 pub mod Whole
+pub mod Lies

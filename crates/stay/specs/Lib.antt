@@ -4,3 +4,4 @@ pub mod Stays
 pub mod Regions
 pub mod Steps
 pub mod Found
+pub mod Examples

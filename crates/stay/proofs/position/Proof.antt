@@ -6,7 +6,8 @@ use native.Mathlib.Omega.{arith}
 use lib.ListN.{length, getD}
 use lib.Ieee.{nan}
 use Rattle.stay.specs.Ordered.{atMost}
-use Rattle.stay.proofs.Ordered.{before, after, position-is, nan-last, atMost-number, differs-nan, agrees-number}
+use Rattle.stay.proofs.Ordered.{before, after, position-is, nan-last, differs-nan, agrees-number}
+use Rattle.stay.proofs.AtMost.{atMost-number}
 use borrow.Author.Needs.{needs}
 use Rattle.stay.proofs.position.Statement.{statement}
 use Rattle.stay.proofs.position.Tie as tie
