@@ -1,3 +1,4 @@
+-- `stay::all_marked` meets its contract. Assumes nothing.
 use mathlib.Core.Path.{_≡_, refl}
 use Prim.Native.Nat.{_-_, _≤_}
 use native.Mathlib.Omega.{arith}
@@ -7,8 +8,6 @@ use Rattle.stay.proofs.Loops.{marked-on, marked-stop, marked-end}
 use borrow.Author.Needs.{needs}
 use Rattle.stay.proofs.all_marked.Statement.{statement}
 use Rattle.stay.proofs.all_marked.Tie as tie
-use Rattle.stay.proofs.all_marked.Reads as reads
-use Rattle.stay.proofs.all_marked.Lts as lts
 
 abbrev Inv-loop : tie.InvT-loop
 Inv-loop marks i₀ i = allMarked (drop i marks) ≡ allMarked marks

@@ -1,3 +1,4 @@
+-- `stay::close` meets its contract. Assumes nothing.
 use mathlib.Core.Path.{_≡_, refl, _∙_}
 use Rattle.stay.specs.Steps.{closed, stateOf, midOf}
 use Rattle.stay.specs.Regions.{middleIn}
@@ -5,12 +6,6 @@ use Rattle.stay.proofs.States.{mid-is}
 use borrow.Author.Needs.{needs}
 use Rattle.stay.proofs.close.Statement.{statement}
 use Rattle.stay.proofs.close.Tie as tie
-use Rattle.stay.proofs.close.Reads as reads
-use Rattle.stay.proofs.close.Lts as lts
-use Rattle.stay.proofs.elapsed.Reads as elapsed-reads
-use Rattle.stay.proofs.is_stay.Reads as is-stay-reads
-use Rattle.stay.proofs.keep.Reads as keep-reads
-use Rattle.stay.proofs.middle.Reads as middle-reads
 
 sub-len : tie.Need-sub-len
 sub-len c = search needs

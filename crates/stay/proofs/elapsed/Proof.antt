@@ -1,9 +1,8 @@
+-- `stay::elapsed` meets its contract. Assumes nothing.
 use Rattle.stay.specs.Steps.{elapsed}
 use borrow.Author.Needs.{needs}
 use Rattle.stay.proofs.elapsed.Statement.{statement}
 use Rattle.stay.proofs.elapsed.Tie as tie
-use Rattle.stay.proofs.elapsed.Reads as reads
-use Rattle.stay.proofs.elapsed.Lts as lts
 
 mul-result : tie.Need-mul-result
 mul-result c = search needs

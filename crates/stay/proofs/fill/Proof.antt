@@ -1,3 +1,4 @@
+-- `stay::fill` meets its contract. Assumes nothing.
 use mathlib.Core.Path.{_≡_, refl}
 use mathlib.Core.List.{_++_}
 use Prim.Native.Nat.{_-_, _≤_}
@@ -10,8 +11,6 @@ use Rattle.stay.proofs.Loops.{fill-on, fill-end}
 use borrow.Author.Needs.{needs}
 use Rattle.stay.proofs.fill.Statement.{statement}
 use Rattle.stay.proofs.fill.Tie as tie
-use Rattle.stay.proofs.fill.Reads as reads
-use Rattle.stay.proofs.fill.Lts as lts
 
 abbrev Inv-loop : tie.InvT-loop
 Inv-loop s₀ v i₀ s i = (s ≡ replicate i (toZ w32 v) ++ drop i s₀) × (length s ≡ length s₀) × (i ≤ length s₀)

@@ -1,3 +1,4 @@
+-- `stay::insert_both` meets its contract. Assumes nothing.
 use mathlib.Core.Path.{_≡_, refl, sym, _∙_}
 use native.Mathlib.Omega.{arith}
 use native.Mathlib.Nat.{add-sub-cancel-left, sub-zero}
@@ -6,9 +7,6 @@ use Rattle.stay.proofs.Regions.{part-length, second-kept}
 use borrow.Author.Needs.{needs}
 use Rattle.stay.proofs.insert_both.Statement.{statement}
 use Rattle.stay.proofs.insert_both.Tie as tie
-use Rattle.stay.proofs.insert_both.Reads as reads
-use Rattle.stay.proofs.insert_both.Lts as lts
-use Rattle.stay.proofs.insert_ordered.Reads as insert-ordered-reads
 
 add-e : tie.Need-add-e
 add-e c = search needs

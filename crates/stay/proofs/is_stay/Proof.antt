@@ -1,10 +1,9 @@
+-- `stay::is_stay` meets its contract. Assumes nothing.
 use borrow.Author.Tests.{le-leb, lt-leb}
 use Rattle.stay.specs.Steps.{stayTest}
 use borrow.Author.Needs.{needs}
 use Rattle.stay.proofs.is_stay.Statement.{statement}
 use Rattle.stay.proofs.is_stay.Tie as tie
-use Rattle.stay.proofs.is_stay.Reads as reads
-use Rattle.stay.proofs.is_stay.Lts as lts
 
 returns : tie.Need-returns
 unfolding stayTest

@@ -1,9 +1,8 @@
+-- `stay::joins` meets its contract. Assumes nothing.
 use Rattle.stay.specs.Steps.{joinTest}
 use borrow.Author.Needs.{needs}
 use Rattle.stay.proofs.joins.Statement.{statement}
 use Rattle.stay.proofs.joins.Tie as tie
-use Rattle.stay.proofs.joins.Reads as reads
-use Rattle.stay.proofs.joins.Lts as lts
 
 returns : tie.Need-returns
 unfolding joinTest

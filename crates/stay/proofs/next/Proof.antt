@@ -1,3 +1,4 @@
+-- `stay::next` meets its contract. Assumes nothing.
 use mathlib.Core.Path.{_≡_, refl, sym, ap, _∙_}
 use Prim.Native.Nat.{_-_, _≤_, _<_}
 use native.Mathlib.Nat.{sub-self, le-refl}
@@ -10,14 +11,6 @@ use Rattle.stay.proofs.States.{grown-state, step-joins, step-closes, te
 use borrow.Author.Needs.{needs}
 use Rattle.stay.proofs.next.Statement.{statement}
 use Rattle.stay.proofs.next.Tie as tie
-use Rattle.stay.proofs.next.Reads as reads
-use Rattle.stay.proofs.next.Lts as lts
-use Rattle.distance.proofs.distance.Reads as distance-reads
-use Rattle.stay.proofs.close.Reads as close-reads
-use Rattle.stay.proofs.elapsed.Reads as elapsed-reads
-use Rattle.stay.proofs.insert_both.Reads as insert-both-reads
-use Rattle.stay.proofs.joins.Reads as joins-reads
-use Rattle.stay.proofs.middle.Reads as middle-reads
 
 sub-len : tie.Need-sub-len
 sub-len c = search needs

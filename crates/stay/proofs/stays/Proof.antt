@@ -1,3 +1,4 @@
+-- `stay::stays` meets its contract: the loop goes on with the run of `proofs/Run.antt`, whose end `proofs/Whole.antt` reads. Assumes nothing.
 use mathlib.Core.Path.{_≡_, refl, sym, ap, _∙_, subst}
 use Prim.Native.Nat.{ℕ, _+_, _-_, _*_, _/_, _≤_, _<_}
 use native.Mathlib.Omega.{arith}
@@ -13,12 +14,6 @@ use Rattle.stay.proofs.Whole.{Sound, sound-step, sound-first, run-on, p
 use borrow.Author.Needs.{needs}
 use Rattle.stay.proofs.stays.Statement.{statement}
 use Rattle.stay.proofs.stays.Tie as tie
-use Rattle.stay.proofs.stays.Reads as reads
-use Rattle.stay.proofs.stays.Lts as lts
-use Rattle.stay.proofs.all_marked.Reads as all-marked-reads
-use Rattle.stay.proofs.close.Reads as close-reads
-use Rattle.stay.proofs.insert_both.Reads as insert-both-reads
-use Rattle.stay.proofs.next.Reads as next-reads
 
 abbrev Inv-loop : tie.InvT-loop
 Inv-loop xs ys times marks s work₀ found events₀ n q timed o₀ i₀ work events o i = (run euclidean s timed times (fixes xs ys times marks) i (n - i) (stateOf q i work events o) ≡ run euclidean s timed times (fixes xs ys times marks) 1 (n - 1) (stateOf q 1 work₀ events₀ o₀)) × Sound found i (stateOf q i work events o) × (i ≤ n) × (length work ≡ length work₀) × (length events ≡ length events₀)
