@@ -13,7 +13,7 @@ use lib.Ieee.Compare.{differs-from-itself}
 use Rattle.lists.proofs.Tests.{and-left, and-right}
 use Rattle.stay.specs.Ordered.{atMost, atMostFirst, inOrder, position, insertOrdered, orderedFrom, ordered, median}
 use Rattle.stay.specs.Regions.{shifted, insertIn}
-use Rattle.stay.proofs.Order.{atMost-trans, atMost-other}
+use Rattle.stay.proofs.AtMost.{nan-above, atMost-trans, atMost-other}
 
 -- ---- what stands where
 
@@ -127,24 +127,11 @@ position-is e (x ∷ xs) (suc q) h a b =
 
 -- ---- the tests of the code
 
-or-last : (a b : Bool) → b ≡ true → (a || b) ≡ true
-or-last true b e = refl
-or-last false b e = e
-
-or-none : (a b : Bool) → b ≡ false → (a || b) ≡ a
-or-none true b e = refl
-or-none false b e = e
-
 -- NaN goes last
 pub nan-last : (e : Float) (xs : List Float) → isNan e ≡ true → length xs ≡ position e xs
-unfolding position atMost
+unfolding position
 nan-last e [] h = refl
-nan-last e (x ∷ xs) h = ap suc (nan-last e xs h) ∙ sym (ap (λ (t : Bool). cond t (suc (position e xs)) 0) (or-last (le x e) (isNan e) h))
-
--- against a number the test is `<=`
-pub atMost-number : (x e : Float) → isNan e ≡ false → atMost x e ≡ le x e
-unfolding atMost
-atMost-number x e h = or-none (le x e) (isNan e) h
+nan-last e (x ∷ xs) h = ap suc (nan-last e xs h) ∙ sym (ap (λ (t : Bool). cond t (suc (position e xs)) 0) (nan-above x e h))
 
 pub differs-nan : (e : Float) → ne e e ≡ true → isNan e ≡ true
 unfolding isNan

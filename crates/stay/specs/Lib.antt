@@ -3,3 +3,5 @@ pub mod Trace
 pub mod Stays
 pub mod Regions
 pub mod Steps
+pub mod Found
+pub mod Examples

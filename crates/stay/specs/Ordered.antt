@@ -3,7 +3,7 @@ use Prim.Native.Nat.{ℕ, zero, suc, _-_, _/_}
 use mathlib.Core.Bool.{Bool, true, _&&_, _||_, cond}
 use mathlib.Core.List.{List, [], _∷_, _++_}
 use lib.ListN.{length, take, drop, getD}
-use lib.Ieee.{Float, nan, isNan, le, add, mul}
+use lib.Ieee.{Float, nan, isNan, le, add, mul, ofBits}
 use Rattle.float.specs.Binary64.{add64, mul64, half64}
 
 -- a is at most b. NaN, which no accepted track has, stands above every number, so that this orders all values.
@@ -47,5 +47,5 @@ ordered xs = orderedFrom [] xs
 
 -- "0.5×(a+b) with a, b at (len-1)/2 and len/2". Of no elements it is NaN.
 unfoldable pub median : List Float → Float
-unfolding add mul
+unfolding add mul ofBits
 median xs = mul64 half64 (add64 (getD xs ((length xs - 1) / 2) nan) (getD xs (length xs / 2) nan))

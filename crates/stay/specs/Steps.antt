@@ -23,16 +23,13 @@ allMarked (m ∷ ms) = eqb m 1 && allMarked ms
 
 -- The time at b less that at a. Times are not looked at unless all are marked.
 unfoldable pub elapsed : Bool → List Float → ℕ → ℕ → Float
-unfolding sub
 elapsed t ts a b = cond t (sub64 (getD ts b nan) (getD ts a nan)) zero64
 
 -- The tests of joining and of acceptance, on numbers.
 unfoldable pub joinTest : Bool → StaySettings → Float → Float → Bool
-unfolding le
 joinTest t s d e = le d (s .r1) && (not t || le e (s .«max_time_between»))
 
 unfoldable pub stayTest : Bool → StaySettings → ℕ → Float → Bool
-unfolding le
 stayTest t s n e = leb (s .«min_size») n && (not t || le (s .«min_staying_time») e)
 
 -- The run's state: where the open group starts, how many stays are before it, its coordinates in order, the numbers of the fixes before it,
@@ -61,12 +58,10 @@ stateOf q i w l o =
 
 -- The open group's median.
 unfoldable pub midOf : State → Point
-unfolding median
 midOf st = record { x = median (st .gx); y = median (st .gy) }
 
 -- A point taken in.
 unfoldable pub taken : Point → State → State
-unfolding insertOrdered
 taken p st =
     record {
       start = st .start;
@@ -78,16 +73,38 @@ taken p st =
       my = st .my;
     }
 
--- The open group closed before fix i, as a stay or not.
-unfoldable pub closed : Bool → ℕ → State → State
-unfolding midOf eventNumber
-closed ok i st =
+-- The open group closed before fix i, as a stay with the median m or as none.
+unfoldable pub kept : Bool → Point → ℕ → State → State
+kept ok m i st =
     record {
       start = i;
-      stays = cond ok (suc (st .stays)) (st .stays);
+      stays = cond ok (st .stays + 1) (st .stays);
       gx = [];
       gy = [];
       events = st .events ++ replicate (i - st .start) (eventNumber ok (st .stays));
-      mx = cond ok (set (st .mx) (st .stays) (midOf st .x)) (st .mx);
-      my = cond ok (set (st .my) (st .stays) (midOf st .y)) (st .my);
+      mx = cond ok (set (st .mx) (st .stays) (m .x)) (st .mx);
+      my = cond ok (set (st .my) (st .stays) (m .y)) (st .my);
     }
+
+unfoldable pub closed : StaySettings → Bool → List Float → ℕ → State → State
+closed s t ts i st = kept (stayTest t s (i - st .start) (elapsed t ts (st .start) (i - 1))) (midOf st) i st
+
+-- One fix: it joins the open group, or closes it and opens the next.
+unfoldable pub step : (Point → Point → Float) → StaySettings → Bool → List Float → Point → ℕ → State → State
+step dist s t ts p i st = taken p (cond (joinTest t s (dist p (midOf st)) (elapsed t ts (i - 1) i)) st (closed s t ts i st))
+
+-- The slices hold the open group, its label places and one more median.
+pub record Room (q i : ℕ) (o : Open) (work events : ℕ) : Type 0 where
+  pub before : o .start < i
+  pub group : i ≤ q
+  pub places : i ≤ events
+  pub parts : 4 * q ≤ work
+  pub median : o .stays < q
+  pub number : o .stays < 2 ^ 31
+
+-- And the open group, in order, can grow.
+pub record Ready (q i : ℕ) (o : Open) (w : List Float) (events : ℕ) : Type 0 where
+  pub room : Room q i o (length w) events
+  pub more : i < q
+  pub x-order : inOrder (take (i - o .start) (part 0 q w)) ≡ true
+  pub y-order : inOrder (take (i - o .start) (part q q w)) ≡ true

@@ -7,9 +7,10 @@ ghost use Prim.Native.Nat.{_+_, _-_, _*_, _/_, _^_, _<_, _≤_};
 ghost use lib.ListN.{length, take, drop, replicate};
 ghost use Rattle.distance.specs.Distance.{euclidean};
 ghost use Rattle.stay.specs.Ordered.{inOrder, position, insertOrdered, median};
-ghost use Rattle.stay.specs.Regions.{shifted, insertBoth};
+ghost use Rattle.stay.specs.Regions.{part, shifted, insertBoth, middleIn, Both};
 ghost use Rattle.stay.specs.Trace.{fixes};
-ghost use Rattle.stay.specs.Steps.{allMarked, elapsed, joinTest, stayTest};
+ghost use Rattle.stay.specs.Steps.{allMarked, elapsed, joinTest, stayTest, stateOf, kept, closed, step, Room, Ready};
+ghost use Rattle.stay.specs.Found.{Lengths, Found};
 
 // What decides joining and acceptance.
 pub struct StaySettings {
@@ -81,4 +82,219 @@ pub fn median(s: &[f64]) -> f64
     let a = (n - 1) / 2;
     let b = n / 2;
     0.5 * (s[a] + s[b])
+}
+
+// p into the first len elements of the first two parts of the work slice, which are of length q.
+fn insert_both(work: &mut [f64], q: usize, len: usize, p: Point)
+    requires { ⌜ Both q len (now work) ⌝ }
+    ensures { λ _. ⌜ now (work .exit) ≡ insertBoth q len (p .x) (p .y) (now (work .entry)) ⌝ }
+{
+    let x = p.x;
+    let y = p.y;
+    let e = q + q;
+    insert_ordered(&mut work[0..q], len, x);
+    insert_ordered(&mut work[q..e], len, y);
+}
+
+// The median of the first len elements of these parts.
+fn middle(work: &[f64], q: usize, len: usize) -> Point
+    requires { ⌜ (len ≤ q) × (q + q ≤ length (now work)) ⌝ }
+    ensures { λ r. ⌜ r ≡ middleIn q len (now (work .entry)) ⌝ }
+{
+    let e = q + len;
+    let x = median(&work[0..len]);
+    let y = median(&work[q..e]);
+    Point { x: x, y: y }
+}
+
+// Whether all marks are 1.
+fn all_marked(marks: &[u8]) -> bool
+    ensures { λ r. ⌜ r ≡ allMarked (now (marks .entry)) ⌝ }
+{
+    let mut i = 0;
+    while i < marks.len() {
+        if marks[i] != 1 {
+            return false;
+        }
+        i += 1;
+    }
+    true
+}
+
+// The time at b less that at a, where the trace is timed.
+fn elapsed(times: &[f64], timed: bool, a: usize, b: usize) -> f64
+    requires { ⌜ (a < length (now times)) × (b < length (now times)) ⌝ }
+    ensures { λ r. ⌜ r ≡ elapsed timed (now (times .entry)) a b ⌝ }
+{
+    if timed {
+        return times[b] - times[a];
+    }
+    0.0
+}
+
+// Whether a fix at distance d, a time of gap after the last, joins.
+fn joins(timed: bool, s: StaySettings, d: f64, gap: f64) -> bool
+    ensures { λ r. ⌜ r ≡ joinTest timed s d gap ⌝ }
+{
+    if d <= s.r1 {
+        if timed {
+            return gap <= s.max_time_between;
+        }
+        return true;
+    }
+    false
+}
+
+// Whether a closed group of n fixes over a time of span is a stay.
+fn is_stay(timed: bool, s: StaySettings, n: usize, span: f64) -> bool
+    ensures { λ r. ⌜ r ≡ stayTest timed s n span ⌝ }
+{
+    if s.min_size <= n {
+        if timed {
+            return s.min_staying_time <= span;
+        }
+        return true;
+    }
+    false
+}
+
+// v at every place.
+fn fill(s: &mut [i32], v: i32)
+    ensures { λ _. ⌜ now (s .exit) ≡ replicate (length (now (s .entry))) v ⌝ }
+{
+    let mut i = 0;
+    while i < s.len() {
+        s[i] = v;
+        i += 1;
+    }
+}
+
+// The group o closed before fix i, as a stay with the median m or as none.
+fn keep(
+    work: &mut [f64],
+    events: &mut [i32],
+    q: usize,
+    i: usize,
+    o: Open,
+    m: Point,
+    ok: bool,
+) -> Open
+    requires { ⌜ Room q i o (length (now work)) (length (now events)) ⌝ }
+    ensures { λ r. ⌜ stateOf q i (now (work .exit)) (now (events .exit)) r ≡ kept ok m i (stateOf q i (now (work .entry)) (now (events .entry)) o) ⌝ }
+{
+    let start = o.start;
+    let stays = o.stays;
+    if ok {
+        fill(&mut events[start..i], stays as i32);
+        let a = 2 * q + stays;
+        let b = 3 * q + stays;
+        work[a] = m.x;
+        work[b] = m.y;
+        return Open {
+            start: i,
+            stays: stays + 1,
+        };
+    }
+    fill(&mut events[start..i], -1);
+    Open {
+        start: i,
+        stays: stays,
+    }
+}
+
+// The open group closed before fix i, as a stay or as none.
+fn close(
+    times: &[f64],
+    timed: bool,
+    s: StaySettings,
+    work: &mut [f64],
+    events: &mut [i32],
+    q: usize,
+    i: usize,
+    o: Open,
+) -> Open
+    requires { ⌜ (i ≤ length (now times)) × Room q i o (length (now work)) (length (now events)) ⌝ }
+    ensures { λ r. ⌜ stateOf q i (now (work .exit)) (now (events .exit)) r ≡ closed s timed (now (times .entry)) i (stateOf q i (now (work .entry)) (now (events .entry)) o) ⌝ }
+{
+    let start = o.start;
+    let len = i - start;
+    let last = i - 1;
+    let span = elapsed(times, timed, start, last);
+    let m = middle(work, q, len);
+    keep(work, events, q, i, o, m, is_stay(timed, s, len, span))
+}
+
+// One fix: it joins the open group, or closes it and opens the next.
+fn next(
+    p: Point,
+    times: &[f64],
+    timed: bool,
+    s: StaySettings,
+    work: &mut [f64],
+    events: &mut [i32],
+    q: usize,
+    i: usize,
+    o: Open,
+) -> Open
+    requires { ⌜ (i < length (now times)) × Ready q i o (now work) (length (now events)) ⌝ }
+    ensures { λ r. ⌜ stateOf q (i + 1) (now (work .exit)) (now (events .exit)) r ≡ step euclidean s timed (now (times .entry)) p i (stateOf q i (now (work .entry)) (now (events .entry)) o) ⌝ }
+{
+    let start = o.start;
+    let len = i - start;
+    let last = i - 1;
+    let m = middle(work, q, len);
+    let d = distance::distance(p, m);
+    let gap = elapsed(times, timed, last, i);
+    if joins(timed, s, d, gap) {
+        insert_both(work, q, len, p);
+        return o;
+    }
+    let n = close(times, timed, s, work, events, q, i, o);
+    insert_both(work, q, 0, p);
+    n
+}
+
+// The stays of one trace: `found` is how many the traces before it have. It hands back how many there are, writes for each fix the number of
+// the accepted stay it lies in, or -1, and the stays' medians behind those of the traces before it.
+pub fn stays(
+    xs: &[f64],
+    ys: &[f64],
+    times: &[f64],
+    marks: &[u8],
+    s: StaySettings,
+    work: &mut [f64],
+    found: usize,
+    events: &mut [i32],
+) -> usize
+    requires { ⌜ Lengths (length (now xs)) (length (now ys)) (length (now times)) (length (now marks)) (length (now events)) (length (now work)) found ⌝ }
+    ensures { λ r. ⌜ Found s (fixes (now (xs .entry)) (now (ys .entry)) (now (times .entry)) (now (marks .entry))) found (now (work .entry)) (now (work .exit)) (now (events .exit)) r ⌝ }
+{
+    let n = xs.len();
+    if n == 0 {
+        return 0;
+    }
+    let q = work.len() / 4;
+    let timed = all_marked(marks);
+    insert_both(work, q, 0, Point { x: xs[0], y: ys[0] });
+    let mut o = Open {
+        start: 0,
+        stays: found,
+    };
+    let mut i = 1;
+    while i < n {
+        o = next(
+            Point { x: xs[i], y: ys[i] },
+            times,
+            timed,
+            s,
+            work,
+            events,
+            q,
+            i,
+            o,
+        );
+        i += 1;
+    }
+    let last = close(times, timed, s, work, events, q, n, o);
+    last.stays - found
 }

@@ -1,3 +1,4 @@
+-- `stay::insert_ordered` meets its contract. Assumes nothing.
 use mathlib.Core.Path.{_≡_, refl, sym, _∙_}
 use Prim.Native.Nat.{_+_}
 use native.Mathlib.Omega.{arith}
@@ -7,10 +8,6 @@ use Rattle.stay.proofs.Shift.{position-in, inserted}
 use borrow.Author.Needs.{needs}
 use Rattle.stay.proofs.insert_ordered.Statement.{statement}
 use Rattle.stay.proofs.insert_ordered.Tie as tie
-use Rattle.stay.proofs.insert_ordered.Reads as reads
-use Rattle.stay.proofs.insert_ordered.Lts as lts
-use Rattle.stay.proofs.position.Reads as position-reads
-use Rattle.stay.proofs.shift_in.Reads as shift-in-reads
 
 sub-position : tie.Need-sub-position
 sub-position c = search needs

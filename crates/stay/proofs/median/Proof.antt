@@ -1,11 +1,10 @@
+-- `stay::median` meets its contract. Assumes nothing.
 use lib.Ieee.{ofBits, div, mul}
 use Rattle.stay.specs.Ordered.{median}
 use Rattle.stay.proofs.Ordered.{median-none}
 use borrow.Author.Needs.{needs}
 use Rattle.stay.proofs.median.Statement.{statement}
 use Rattle.stay.proofs.median.Tie as tie
-use Rattle.stay.proofs.median.Reads as reads
-use Rattle.stay.proofs.median.Lts as lts
 
 returns : tie.Need-returns
 unfolding div ofBits

@@ -1,3 +1,4 @@
+-- `stay::position` meets its contract: what lies below `lo` is at most elem, what lies from `hi` on is not. Assumes nothing.
 use mathlib.Core.Path.{_≡_, sym, _∙_}
 use mathlib.Core.Bool.{true, false}
 use Prim.Native.Nat.{ℕ, _+_, _-_, _/_, _≤_, _<_}
@@ -6,12 +7,11 @@ use native.Mathlib.Omega.{arith}
 use lib.ListN.{length, getD}
 use lib.Ieee.{nan}
 use Rattle.stay.specs.Ordered.{atMost}
-use Rattle.stay.proofs.Ordered.{before, after, position-is, nan-last, atMost-number, differs-nan, agrees-number}
+use Rattle.stay.proofs.Ordered.{before, after, position-is, nan-last, differs-nan, agrees-number}
+use Rattle.stay.proofs.AtMost.{atMost-number}
 use borrow.Author.Needs.{needs}
 use Rattle.stay.proofs.position.Statement.{statement}
 use Rattle.stay.proofs.position.Tie as tie
-use Rattle.stay.proofs.position.Reads as reads
-use Rattle.stay.proofs.position.Lts as lts
 
 abbrev Inv-loop : tie.InvT-loop
 Inv-loop s elem lo₀ hi₀ lo hi = (lo ≤ hi) × (hi ≤ length s) × ((k : ℕ) → k < lo → atMost (getD s k nan) elem ≡ true) × ((k : ℕ) → hi ≤ k → k < length s → atMost (getD s k nan) elem ≡ false)

@@ -1,3 +1,4 @@
+-- `stay::shift_in` meets its contract: without the element at j the slice is the old one without its last. Assumes nothing.
 use mathlib.Core.Path.{_≡_, refl}
 use Prim.Native.Nat.{_-_, _≤_, _<_}
 use native.Mathlib.Omega.{arith}
@@ -6,8 +7,6 @@ use Rattle.stay.proofs.Shift.{without, without-last, step-down, filled}
 use borrow.Author.Needs.{needs}
 use Rattle.stay.proofs.shift_in.Statement.{statement}
 use Rattle.stay.proofs.shift_in.Tie as tie
-use Rattle.stay.proofs.shift_in.Reads as reads
-use Rattle.stay.proofs.shift_in.Lts as lts
 
 abbrev Inv-loop : tie.InvT-loop
 Inv-loop s₀ at elem j₀ s j = (at ≤ j) × (j < length s) × (length s ≡ length s₀) × (without j s ≡ take (length s₀ - 1) s₀)

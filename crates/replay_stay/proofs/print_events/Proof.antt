@@ -1,0 +1,56 @@
+-- `replay_stay::print_events` is safe and ends. Assumes nothing.
+use Prim.Native.Nat.{_≤_, _-_}
+use native.Mathlib.Omega.{arith}
+use lib.ListN.{length}
+use borrow.Author.Needs.{needs}
+use Rattle.replay_stay.proofs.print_events.Statement.{statement}
+use Rattle.replay_stay.proofs.print_events.Tie as tie
+
+abbrev Inv-loop : tie.InvT-loop
+Inv-loop events i₀ i = i ≤ length events
+
+abbrev μ-loop : tie.MeasureT-loop
+μ-loop events i₀ i = length events - i
+
+loop-holds : tie.Need-loop-holds Inv-loop μ-loop
+loop-holds c = search needs
+
+mul-print-label : tie.Need-mul-print-label Inv-loop μ-loop
+mul-print-label c = search needs
+
+shared-slice-copy-out-print-label : tie.Need-shared-slice-copy-out-print-label Inv-loop μ-loop
+shared-slice-copy-out-print-label c = search needs
+
+print-label-requires : tie.Need-print-label-requires Inv-loop μ-loop
+print-label-requires c κs = search needs
+
+space-requires : tie.Need-space-requires Inv-loop μ-loop
+space-requires c κs = search needs
+
+add-i : tie.Need-add-i Inv-loop μ-loop
+add-i c = search needs
+
+loop-less : tie.Need-loop-less Inv-loop μ-loop
+loop-less c = search needs
+
+loop-again : tie.Need-loop-again Inv-loop μ-loop
+loop-again c = search needs
+
+returns : tie.Need-returns Inv-loop μ-loop
+returns c = search needs
+
+pub print-events-spec : {M : Type 1} → statement M
+print-events-spec =
+    tie.close
+    (tie.spec
+    Inv-loop
+    μ-loop
+    loop-holds
+    mul-print-label
+    shared-slice-copy-out-print-label
+    print-label-requires
+    space-requires
+    add-i
+    loop-less
+    loop-again
+    returns)

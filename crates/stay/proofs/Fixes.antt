@@ -1,0 +1,106 @@
+-- The fixes that lists stand for, one by one, and their times. Assumes nothing.
+use mathlib.Core.Path.{_≡_, refl, sym, ap, ap₂, _∙_}
+use mathlib.Core.Bool.{Bool, true, false, _&&_, cond, false≢true}
+use mathlib.Core.List.{List, [], _∷_, _++_, map}
+use mathlib.Core.Option.{Option, none, some}
+use Prim.Native.Nat.{ℕ, zero, suc, _+_, _-_, _<_, _≤_}
+use native.Mathlib.Omega.{arith}
+use borrow.Author.Tests.{eqb-true}
+use lib.Dec.{eqb}
+use lib.ListN.{length, getD, length-append, length-map, List·getD-map, List·getD-append}
+use lib.Seq.{getD-at}
+use lib.Ieee.{Float, nan}
+use Rattle.lists.proofs.Tests.{and-left, and-right}
+use Rattle.distance.specs.declared.Point.{Point}
+use Rattle.stay.specs.Trace.{Fix, timeOf, fixes, hasTime, timed}
+use Rattle.stay.specs.Stays.{firstTime, lastTime}
+use Rattle.stay.specs.Steps.{allMarked}
+
+-- stands for a fix past the end of a list
+abbrev pub noFix : Fix
+noFix = record { at = record { x = nan; y = nan }; time = none }
+
+abbrev pub pointAt : List Fix → ℕ → Point
+pointAt fs i = getD fs i noFix .at
+
+abbrev pub timeAt : List Fix → ℕ → Option Float
+timeAt fs i = getD fs i noFix .time
+
+-- lists of one length
+abbrev Long : List Float → List Float → List Float → List ℕ → Type 0
+Long xs ys ts ms = (length ys ≡ length xs) × (length ts ≡ length xs) × (length ms ≡ length xs)
+
+pub fixes-length : (xs ys ts : List Float) (ms : List ℕ) → length ys ≡ length xs → length ts ≡ length xs → length ms ≡ length xs → length (fixes xs ys ts ms) ≡ length xs
+unfolding fixes
+fixes-length [] ys ts ms a b c = refl
+fixes-length (x ∷ xs) [] ts ms a b c = absurd (omega arith)
+fixes-length (x ∷ xs) (y ∷ ys) [] ms a b c = absurd (omega arith)
+fixes-length (x ∷ xs) (y ∷ ys) (t ∷ ts) [] a b c = absurd (omega arith)
+fixes-length (x ∷ xs) (y ∷ ys) (t ∷ ts) (m ∷ ms) a b c = ap suc (fixes-length xs ys ts ms (omega arith) (omega arith) (omega arith))
+
+pub fixes-at : (xs ys ts : List Float) (ms : List ℕ) (i : ℕ) → length ys ≡ length xs → length ts ≡ length xs → length ms ≡ length xs → i < length xs
+    → getD (fixes xs ys ts ms) i noFix ≡ record { at = record { x = getD xs i nan; y = getD ys i nan }; time = timeOf (getD ms i 0) (getD ts i nan) }
+unfolding fixes
+fixes-at [] ys ts ms i a b c h = absurd (omega arith)
+fixes-at (x ∷ xs) [] ts ms i a b c h = absurd (omega arith)
+fixes-at (x ∷ xs) (y ∷ ys) [] ms i a b c h = absurd (omega arith)
+fixes-at (x ∷ xs) (y ∷ ys) (t ∷ ts) [] i a b c h = absurd (omega arith)
+fixes-at (x ∷ xs) (y ∷ ys) (t ∷ ts) (m ∷ ms) zero a b c h = refl
+fixes-at (x ∷ xs) (y ∷ ys) (t ∷ ts) (m ∷ ms) (suc i) a b c h = fixes-at xs ys ts ms i (omega arith) (omega arith) (omega arith) (omega arith)
+
+-- the trace is timed if all marks are 1
+has-time-of : (m : ℕ) (t : Float) → hasTime (timeOf m t) ≡ eqb m 1
+unfolding hasTime timeOf
+has-time-of m t = go (eqb m 1)
+  where
+    go : (b : Bool) → hasTime (cond b (some t) none) ≡ b
+    go true = refl
+    go false = refl
+
+pub timed-marked : (xs ys ts : List Float) (ms : List ℕ) → length ys ≡ length xs → length ts ≡ length xs → length ms ≡ length xs → allMarked ms ≡ timed (fixes xs ys ts ms)
+unfolding fixes timed allMarked
+timed-marked [] ys ts [] a b c = refl
+timed-marked [] ys ts (m ∷ ms) a b c = absurd (omega arith)
+timed-marked (x ∷ xs) [] ts ms a b c = absurd (omega arith)
+timed-marked (x ∷ xs) (y ∷ ys) [] ms a b c = absurd (omega arith)
+timed-marked (x ∷ xs) (y ∷ ys) (t ∷ ts) [] a b c = absurd (omega arith)
+timed-marked (x ∷ xs) (y ∷ ys) (t ∷ ts) (m ∷ ms) a b c = ap₂ _&&_ (sym (has-time-of m t)) (timed-marked xs ys ts ms (omega arith) (omega arith) (omega arith))
+
+marked-at : (ms : List ℕ) (i : ℕ) → i < length ms → allMarked ms ≡ true → getD ms i 0 ≡ 1
+unfolding allMarked
+marked-at [] i h e = absurd (omega arith)
+marked-at (m ∷ ms) zero h e = eqb-true m 1 (and-left (eqb m 1) (allMarked ms) e)
+marked-at (m ∷ ms) (suc i) h e = marked-at ms i (omega arith) (and-right (eqb m 1) (allMarked ms) e)
+
+-- the times of a timed trace are those of the list
+pub time-at : (xs ys ts : List Float) (ms : List ℕ) → length ys ≡ length xs → length ts ≡ length xs → length ms ≡ length xs → allMarked ms ≡ true
+    → (i : ℕ) → i < length xs → timeAt (fixes xs ys ts ms) i ≡ some (getD ts i nan)
+unfolding timeOf
+time-at xs ys ts ms a b c e i h =
+    ap (λ (f : Fix). f .time) (fixes-at xs ys ts ms i a b c h) ∙ ap (λ (m : ℕ). timeOf m (getD ts i nan)) (marked-at ms i (omega arith) e)
+
+-- ---- the first and the last time of a group
+
+map-more : {A : Type 0} (h : Fix → A) (g : List Fix) (f : Fix) → map h (g ++ (f ∷ [])) ≡ map h g ++ (h f ∷ [])
+map-more h [] f = refl
+map-more {A} h (e ∷ g) f = ap (λ (l : List A). h e ∷ l) (map-more h g f)
+
+pub map-x : (g : List Fix) (f : Fix) → map (λ (h : Fix). h .at .x) (g ++ (f ∷ [])) ≡ map (λ (h : Fix). h .at .x) g ++ (f .at .x ∷ [])
+map-x g f = map-more (λ (h : Fix). h .at .x) g f
+
+pub map-y : (g : List Fix) (f : Fix) → map (λ (h : Fix). h .at .y) (g ++ (f ∷ [])) ≡ map (λ (h : Fix). h .at .y) g ++ (f .at .y ∷ [])
+map-y g f = map-more (λ (h : Fix). h .at .y) g f
+
+pub first-more : (g : List Fix) (f : Fix) → 0 < length g → firstTime (g ++ (f ∷ [])) ≡ firstTime g
+unfolding firstTime
+first-more [] f h = absurd (omega arith)
+first-more (e ∷ g) f h = refl
+
+pub last-more : (g : List Fix) (f : Fix) → lastTime (g ++ (f ∷ [])) ≡ f .time
+unfolding lastTime
+last-more g f =
+    let times : List Fix → List (Option Float) = map (λ (h : Fix). h .time) in
+    let n : length (g ++ (f ∷ [])) - 1 ≡ length g = simp length-append (omega arith) in
+    ap (λ (k : ℕ). getD (times (g ++ (f ∷ []))) k none) n
+    ∙ ap (λ (l : List (Option Float)). getD l (length g) none) (map-more (λ (h : Fix). h .time) g f)
+    ∙ getD-at (times g) (f .time) [] none (length g) (length-map g (λ (h : Fix). h .time))

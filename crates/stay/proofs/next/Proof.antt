@@ -1,0 +1,95 @@
+-- `stay::next` meets its contract. Assumes nothing.
+use mathlib.Core.Path.{_≡_, refl, sym, ap, _∙_}
+use Prim.Native.Nat.{_-_, _≤_, _<_}
+use native.Mathlib.Nat.{sub-self, le-refl}
+use native.Mathlib.Omega.{arith}
+use lib.ListN.{length}
+use Rattle.distance.specs.Distance.{euclidean}
+use Rattle.stay.specs.Ordered.{inOrder}
+use Rattle.stay.specs.Steps.{State, stateOf, closed, kept, taken}
+use Rattle.stay.proofs.States.{grown-state, step-joins, step-closes, test-is}
+use borrow.Author.Needs.{needs}
+use Rattle.stay.proofs.next.Statement.{statement}
+use Rattle.stay.proofs.next.Tie as tie
+
+sub-len : tie.Need-sub-len
+sub-len c = search needs
+
+sub-last : tie.Need-sub-last
+sub-last c = search needs
+
+middle-requires : tie.Need-middle-requires
+middle-requires c κs = search needs
+
+distance-requires : tie.Need-distance-requires
+distance-requires c κs = search needs
+
+elapsed-requires : tie.Need-elapsed-requires
+elapsed-requires c κs = search needs
+
+joins-requires : tie.Need-joins-requires
+joins-requires c κs = search needs
+
+insert-both-requires : tie.Need-insert-both-requires
+insert-both-requires c κs = search needs
+
+same-length : tie.Need-same-length
+same-length c = search needs
+
+returns : tie.Need-returns
+returns c =
+    let a = c .before .before .before .before .before .before .before .before .before .before .before .before .args in
+    let p = c .before .before .before .before .before .before .before .before .before .before .before .before .pre .1 in
+    let st = stateOf (a .q) (a .i) (a .work .now) (a .events .now) (a .o) in
+    rw (c .before .before .insert-both .ensures)
+    (grown-state (a .q) (a .i) (a .i - a .o .start) (a .work .now) (a .events .now) (a .o) (a .p) (omega arith) refl (omega arith) (p .room .parts)
+    ∙ sym (step-joins euclidean (a .s) (a .timed) (a .times .now) (a .p) (a .i) st
+    (test-is euclidean (a .s) (a .timed) (a .times .now) (a .p) (a .i) (a .q) (a .work .now) (a .events .now) (a .o)
+    (c .before .before .before .before .before .before .before .before .middle .ensures) (c .before .before .before .before .before .before .before .distance .ensures) (c .before .before .before .before .before .before .elapsed .ensures) (c .before .before .before .before .before .joins .ensures) (c .before .before .before .before .if1 .taken))))
+
+close-requires : tie.Need-close-requires
+close-requires c κs = search needs
+
+insert-both-requires-2 : tie.Need-insert-both-requires-2
+unfolding inOrder
+insert-both-requires-2 c κs = record { more = omega arith; fits = omega (arith, c .before .before .before .before .close .kept .1 .1 .1 .0); x-order = refl; y-order = refl }
+
+same-length-2 : tie.Need-same-length-2
+same-length-2 c = search needs
+
+same-length-3 : tie.Need-same-length-3
+same-length-3 c = search needs
+
+returns-2 : tie.Need-returns-2
+unfolding closed kept stateOf
+returns-2 c =
+    let a = c .before .before .before .before .before .before .before .before .before .before .before .before .before .before .before .before .before .before .args in
+    let p = c .before .before .before .before .before .before .before .before .before .before .before .before .before .before .before .before .before .before .pre .1 in
+    let st = stateOf (a .q) (a .i) (a .work .now) (a .events .now) (a .o) in
+    let e = c .before .before .before .before .before .before .before .close .ensures in
+    let at : c .before .before .before .before .before .before .before .close .result .start ≡ a .i = ap (λ (z : State). z .start) e in
+    rw (c .before .before .insert-both2 .ensures)
+    (grown-state (a .q) (a .i) 0 (c .before .before .before .before .before .before .before .close .last .1 .1 .1 .0) (c .before .before .before .before .before .before .before .close .last .1 .1 .1 .1 .0) (c .before .before .before .before .before .before .before .close .result) (a .p) (omega arith) (omega arith) (omega arith) (omega (arith, c .before .before .before .before .before .before .before .close .kept .1 .1 .1 .0))
+    ∙ ap (taken (a .p)) e
+    ∙ sym (step-closes euclidean (a .s) (a .timed) (a .times .now) (a .p) (a .i) st
+    (test-is euclidean (a .s) (a .timed) (a .times .now) (a .p) (a .i) (a .q) (a .work .now) (a .events .now) (a .o)
+    (c .before .before .before .before .before .before .before .before .before .before .before .before .before .before .middle .ensures) (c .before .before .before .before .before .before .before .before .before .before .before .before .before .distance .ensures) (c .before .before .before .before .before .before .before .before .before .before .before .before .elapsed .ensures) (c .before .before .before .before .before .before .before .before .before .before .before .joins .ensures) (c .before .before .before .before .before .before .before .before .before .before .if1 .left))))
+
+pub next-spec : {M : Type 1} → statement M
+next-spec =
+    tie.close
+    (tie.spec
+    sub-len
+    sub-last
+    middle-requires
+    distance-requires
+    elapsed-requires
+    joins-requires
+    insert-both-requires
+    same-length
+    returns
+    close-requires
+    insert-both-requires-2
+    same-length-2
+    same-length-3
+    returns-2)

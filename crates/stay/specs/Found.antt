@@ -1,0 +1,31 @@
+-- What `stays` asks for and what it ensures. Definitions only.
+use Prim.Native.Nat.{ℕ, _+_, _*_, _/_, _≤_, _<_, _^_}
+use mathlib.Core.Path.{_≡_}
+use mathlib.Core.List.{List, map}
+use lib.IntN.{ℤ}
+use lib.ListN.{length}
+use lib.Seq.{sets}
+use lib.Ieee.{Float}
+use Rattle.distance.specs.declared.Point.{Point}
+use Rattle.distance.specs.Distance.{euclidean}
+use Rattle.stay.specs.declared.StaySettings.{StaySettings}
+use Rattle.stay.specs.Regions.{part}
+use Rattle.stay.specs.Trace.{Fix}
+use Rattle.stay.specs.Stays.{stayMedians, eventMap}
+
+-- The trace's slices are of one length n, and a quarter of the work slice has room for the stays so far and n more.
+pub record Lengths (n ys times marks events work found : ℕ) : Type 0 where
+  pub ys-length : ys ≡ n
+  pub times-length : times ≡ n
+  pub marks-length : marks ≡ n
+  pub events-length : events ≡ n
+  pub room : 4 * (found + n) ≤ work
+  pub numbers : found + n < 2 ^ 31
+
+-- Of the trace fs: the number of its stays, the stay number of each fix, counted from `found`, and its medians, written behind the first
+-- `found` of the third and fourth quarter of the work slice. What those quarters hold otherwise is as it was; the first two are free.
+pub record Found (s : StaySettings) (fs : List Fix) (found : ℕ) (w v : List Float) (events : List ℤ) (r : ℕ) : Type 0 where
+  pub count : r ≡ length (stayMedians euclidean s fs)
+  pub numbered : events ≡ eventMap euclidean s found fs
+  pub medians-x : part (2 * (length w / 4)) (length w / 4) v ≡ sets (part (2 * (length w / 4)) (length w / 4) w) found (map (λ (p : Point). p .x) (stayMedians euclidean s fs))
+  pub medians-y : part (3 * (length w / 4)) (length w / 4) v ≡ sets (part (3 * (length w / 4)) (length w / 4) w) found (map (λ (p : Point). p .y) (stayMedians euclidean s fs))
