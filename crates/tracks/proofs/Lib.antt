@@ -1,0 +1,4 @@
+pub mod Turns
+pub mod Columns
+pub mod Parts
+pub mod Lengths

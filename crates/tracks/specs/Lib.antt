@@ -1,0 +1,5 @@
+pub mod Refusals
+pub mod Checks
+pub mod Settings
+pub mod Traces
+pub mod Tracks
