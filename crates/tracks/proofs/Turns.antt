@@ -10,7 +10,7 @@ use lib.Seq.{drop-cons}
 use Rattle.tracks.specs.declared.refusal.Refusal.{Refusal}
 use Rattle.tracks.specs.declared.refusal.Checked.{Checked}
 use Rattle.tracks.specs.declared.refusal.Checked.the-variants.{Accepted, Refused}
-use Rattle.tracks.specs.Checks.{isRefused, refuseIf, firstOf, inTurn, eachOf}
+use Rattle.tracks.specs.Checks.{isRefused, refuseIf, firstOf, inTurn, eachOf, eachFrom}
 
 -- What a test of a callee's answer says of the definition.
 pub says : {A : Type 0} {a b d : A} → a ≡ b → a ≡ d → b ≡ d
@@ -73,6 +73,21 @@ turn-first c cs h = first-both c (inTurn cs) h .0
 pub turn-rest : (c : Checked) (cs : List Checked) → inTurn (c ∷ cs) ≡ Accepted → inTurn cs ≡ Accepted
 unfolding inTurn
 turn-rest c cs h = first-both c (inTurn cs) h .1
+
+pub each-at : {A : Type 0} (f : A → Checked) (l : List A) (d : A) → eachOf f l ≡ Accepted → (i : ℕ) → i < length l → f (getD l i d) ≡ Accepted
+unfolding eachOf
+each-at f [] d h i n = absurd (omega arith)
+each-at f (x ∷ l) d h zero n = first-both (f x) (eachOf f l) h .0
+each-at f (x ∷ l) d h (suc i) n = each-at f l d (first-both (f x) (eachOf f l) h .1) i (omega arith)
+
+each-from : {A : Type 0} (f : ℕ → A → Checked) (k : ℕ) (l : List A) (d : A) → eachFrom f k l ≡ Accepted → (i : ℕ) → i < length l → f (k + i) (getD l i d) ≡ Accepted
+unfolding eachFrom
+each-from f k [] d h i n = absurd (omega arith)
+each-from f k (x ∷ l) d h zero n = let e : k + 0 ≡ k = omega arith in rw e (first-both (f k x) (eachFrom f (suc k) l) h .0)
+each-from f k (x ∷ l) d h (suc i) n = let e : k + suc i ≡ suc k + i = omega arith in rw e (each-from f (suc k) l d (first-both (f k x) (eachFrom f (suc k) l) h .1) i (omega arith))
+
+pub each-from-at : {A : Type 0} (f : ℕ → A → Checked) (l : List A) (d : A) → eachFrom f 0 l ≡ Accepted → (i : ℕ) → i < length l → f i (getD l i d) ≡ Accepted
+each-from-at f l d h i n = let e : 0 + i ≡ i = omega arith in rw e at (each-from f 0 l d h i n)
 
 -- ---- a loop over the items from i on
 module _ {A : Type 0} (f : A → Checked) (l : List A) (d : A) (i : ℕ) {v : Checked} (inv : eachOf f (drop i l) ≡ v) where

@@ -3,3 +3,4 @@ pub mod Checks
 pub mod Settings
 pub mod Traces
 pub mod Tracks
+pub mod Examples

@@ -1,4 +1,4 @@
--- `tracks::tracks::check_traces` meets its contract. The invariant: the traces from k on, the first of them starting at `at`, have the first refusal of all. Assumes nothing.
+-- `tracks::check_traces` meets its contract. The invariant: the traces from k on, the first of them starting at `at`, have the first refusal of all. Assumes nothing.
 use mathlib.Core.Path.{_≡_, refl, ap, _∙_}
 use Prim.Native.Nat.{_+_, _-_}
 use native.Mathlib.Omega.{arith}
@@ -10,8 +10,8 @@ use Rattle.tracks.specs.Tracks.{total, traces}
 use Rattle.tracks.proofs.Turns.{says}
 use Rattle.tracks.proofs.Parts.{total-drop, fixes-lent, trace-on, trace-stop, trace-end}
 use borrow.Author.Needs.{needs}
-use Rattle.tracks.proofs.tracks.check_traces.Statement.{statement}
-use Rattle.tracks.proofs.tracks.check_traces.Tie as tie
+use Rattle.tracks.proofs.check_traces.Statement.{statement}
+use Rattle.tracks.proofs.check_traces.Tie as tie
 
 abbrev Inv-loop : tie.InvT-loop
 Inv-loop xs ys times marks lens k₀ at₀ k at = (eachFrom checkTrace k (traces (drop k lens) (drop at (fixes xs ys times marks))) ≡ eachFrom checkTrace 0 (traces lens (fixes xs ys times marks))) × (at + total (drop k lens) ≡ length xs)

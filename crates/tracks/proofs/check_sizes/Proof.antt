@@ -1,4 +1,4 @@
--- `tracks::tracks::check_sizes` meets its contract. The invariant: the traces from k on, the first of them starting at `at`, have the first refusal of all. Assumes nothing.
+-- `tracks::check_sizes` meets its contract. The invariant: the traces from k on, the first of them starting at `at`, have the first refusal of all. Assumes nothing.
 use mathlib.Core.Path.{_≡_, refl, ap, _∙_}
 use mathlib.Core.List.{List}
 use Prim.Native.Nat.{ℕ, _+_, _-_}
@@ -13,8 +13,8 @@ use Rattle.tracks.specs.Tracks.{total, traces}
 use Rattle.tracks.proofs.Turns.{says}
 use Rattle.tracks.proofs.Parts.{total-drop, lent, fixes-lent, length-lent, trace-on, trace-stop, trace-end}
 use borrow.Author.Needs.{needs}
-use Rattle.tracks.proofs.tracks.check_sizes.Statement.{statement}
-use Rattle.tracks.proofs.tracks.check_sizes.Tie as tie
+use Rattle.tracks.proofs.check_sizes.Statement.{statement}
+use Rattle.tracks.proofs.check_sizes.Tie as tie
 
 -- the check of the parts of the columns is that of the trace
 at-size : (k at n : ℕ) (xs ys ts : List Float) (ms : List ℕ) {r : Checked} → length ts ≡ length xs → length ms ≡ length xs

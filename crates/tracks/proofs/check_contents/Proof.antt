@@ -1,11 +1,11 @@
--- `tracks::tracks::check_contents` meets its contract. Assumes nothing.
+-- `tracks::check_contents` meets its contract. Assumes nothing.
 use mathlib.Core.Path.{sym, _∙_}
 use Rattle.tracks.specs.Checks.{inTurn}
 use Rattle.tracks.specs.Tracks.{checkContents}
 use Rattle.tracks.proofs.Turns.{says, first-alone, stops, goes-on}
 use borrow.Author.Needs.{needs}
-use Rattle.tracks.proofs.tracks.check_contents.Statement.{statement}
-use Rattle.tracks.proofs.tracks.check_contents.Tie as tie
+use Rattle.tracks.proofs.check_contents.Statement.{statement}
+use Rattle.tracks.proofs.check_contents.Tie as tie
 
 check-marks-requires : tie.Need-check-marks-requires
 check-marks-requires c κs = search needs

@@ -1,12 +1,12 @@
--- `tracks::tracks::check_tracks` meets its contract. Assumes nothing.
+-- `tracks::check_tracks` meets its contract. Assumes nothing.
 use mathlib.Core.Path.{sym, _∙_}
 use Rattle.tracks.specs.Checks.{inTurn}
 use Rattle.tracks.specs.Tracks.{checkTracks}
 use Rattle.tracks.proofs.Turns.{says, first-alone, stops, goes-on, accepts}
 use Rattle.tracks.proofs.Lengths.{lengths-agree, counts-few}
 use borrow.Author.Needs.{needs}
-use Rattle.tracks.proofs.tracks.check_tracks.Statement.{statement}
-use Rattle.tracks.proofs.tracks.check_tracks.Tie as tie
+use Rattle.tracks.proofs.check_tracks.Statement.{statement}
+use Rattle.tracks.proofs.check_tracks.Tie as tie
 
 check-lengths-requires : tie.Need-check-lengths-requires
 check-lengths-requires c κs = search needs
