@@ -14,14 +14,15 @@ use Rattle.tracks.specs.declared.refusal.Checked.{Checked}
 use Rattle.tracks.specs.declared.refusal.Checked.the-variants.{Accepted}
 use Rattle.tracks.specs.Checks.{eachOf, eachFrom}
 use Rattle.tracks.specs.Traces.{checkTrace, checkSize}
-use Rattle.tracks.specs.Tracks.{traces, checkMark, checkContents, checkTracks}
+use Rattle.tracks.specs.Tracks.{traces, checkLengths, checkCounts, checkWork, checkMark, checkContents, checkTracks, checkReportTracks}
 use Rattle.tracks.proofs.Turns.{passed, turn-first, turn-rest, each-at, each-from-at}
-use Rattle.tracks.proofs.Lengths.{Agreed, Counted, Roomy, lengths-agree, counts-few, work-long}
+use Rattle.tracks.proofs.Lengths.{Agreed, Counted, Placed, Roomy, lengths-agree, counts-few, places-few, work-long}
 use Rattle.tracks.proofs.Usable.{Usable, trace-usable}
 
+-- What both a fit and a report may rely on.
 pub record AcceptedTracks (xs ys ts : List Float) (ms lens : List ℕ) (labels places floats words : ℕ) : Type 0 where
   pub agreed : Agreed lens (length xs) (length ys) (length ts) (length ms) labels
-  pub counted : Counted (length lens) (length xs) places
+  pub counted : Counted (length lens) (length xs)
   pub roomy : Roomy (length xs) places floats words
   -- Every time mark is 0 or 1.
   pub marked : (i : ℕ) → i < length ms → getD ms i 0 ≤ 1
@@ -33,35 +34,49 @@ unfolding traces
 length-traces [] fs = refl
 length-traces (n ∷ ns) fs = ap suc (length-traces ns (drop n fs))
 
-pub tracks-accepted : (xs ys ts : List Float) (ms lens : List ℕ) (labels places floats words : ℕ) → checkTracks xs ys ts ms lens labels places floats words ≡ Accepted
-    → AcceptedTracks xs ys ts ms lens labels places floats words
-unfolding checkTracks
-tracks-accepted xs ys ts ms lens labels places floats words h =
-    record {
-      agreed = lengths-agree lens (length xs) (length ys) (length ts) (length ms) labels (turn-first _ _ h);
-      counted = counts-few (length lens) (length xs) places (turn-first _ _ (turn-rest _ _ h));
-      roomy = work-long (length xs) places floats words (turn-first _ _ (turn-rest _ _ (turn-rest _ _ h)));
-      marked = λ i n. mark-small (getD ms i 0) (each-at checkMark ms 0 marks i n);
-      each-trace = λ k n. trace-usable k (getD all k []) (each-from-at checkTrace all [] in-turn k (inside k n)) (each-from-at checkSize all [] sizes k (inside k n));
-    }
-  where
-    all : List (List Fix)
-    all = traces lens (fixes xs ys ts ms)
+mark-small : (m : ℕ) → checkMark m ≡ Accepted → m ≤ 1
+unfolding checkMark
+mark-small m e = ltb-false 1 m (passed (ltb 1 m) TimeMark e)
 
-    contents : checkContents xs ys ts ms lens ≡ Accepted
-    contents = turn-first _ _ (turn-rest _ _ (turn-rest _ _ (turn-rest _ _ h)))
+module _ (xs ys ts : List Float) (ms lens : List ℕ) where
+  accepted : (labels places floats words : ℕ) → checkLengths lens (length xs) (length ys) (length ts) (length ms) labels ≡ Accepted → checkCounts (length lens) (length xs) ≡ Accepted
+      → checkWork (length xs) places floats words ≡ Accepted → checkContents xs ys ts ms lens ≡ Accepted → AcceptedTracks xs ys ts ms lens labels places floats words
+  accepted labels places floats words a b c d =
+      record {
+        agreed = lengths-agree lens (length xs) (length ys) (length ts) (length ms) labels a;
+        counted = counts-few (length lens) (length xs) b;
+        roomy = work-long (length xs) places floats words c;
+        marked = λ i n. mark-small (getD ms i 0) (each-at checkMark ms 0 marks i n);
+        each-trace = λ k n. trace-usable k (getD all k []) (each-from-at checkTrace all [] in-turn k (inside k n)) (each-from-at checkSize all [] sizes k (inside k n));
+      }
+    where
+      all : List (List Fix)
+      all = traces lens (fixes xs ys ts ms)
 
-    marks : eachOf checkMark ms ≡ Accepted
-    marks = unfold checkContents in turn-first _ _ contents
+      marks : eachOf checkMark ms ≡ Accepted
+      marks = unfold checkContents in turn-first _ _ d
 
-    in-turn : eachFrom checkTrace 0 all ≡ Accepted
-    in-turn = unfold checkContents in turn-first _ _ (turn-rest _ _ contents)
+      in-turn : eachFrom checkTrace 0 all ≡ Accepted
+      in-turn = unfold checkContents in turn-first _ _ (turn-rest _ _ d)
 
-    sizes : eachFrom checkSize 0 all ≡ Accepted
-    sizes = unfold checkContents in turn-first _ _ (turn-rest _ _ (turn-rest _ _ contents))
+      sizes : eachFrom checkSize 0 all ≡ Accepted
+      sizes = unfold checkContents in turn-first _ _ (turn-rest _ _ (turn-rest _ _ d))
 
-    inside : (k : ℕ) → k < length lens → k < length all
-    inside k n = let e = length-traces lens (fixes xs ys ts ms) in omega arith
+      inside : (k : ℕ) → k < length lens → k < length all
+      inside k n = let e = length-traces lens (fixes xs ys ts ms) in omega arith
 
-    mark-small : (m : ℕ) → checkMark m ≡ Accepted → m ≤ 1
-    mark-small m e = unfold checkMark in ltb-false 1 m (passed (ltb 1 m) TimeMark e)
+  pub tracks-accepted : (labels places floats words : ℕ) → checkTracks xs ys ts ms lens labels places floats words ≡ Accepted
+      → AcceptedTracks xs ys ts ms lens labels places floats words × Placed places
+  unfolding checkTracks
+  tracks-accepted labels places floats words h =
+      let a = turn-rest _ _ h in
+      let b = turn-rest _ _ a in
+      let c = turn-rest _ _ b in
+      (accepted labels places floats words (turn-first _ _ h) (turn-first _ _ a) (turn-first _ _ c) (turn-first _ _ (turn-rest _ _ c)), places-few places (turn-first _ _ b))
+
+  pub report-accepted : (floats words : ℕ) → checkReportTracks xs ys ts ms lens floats words ≡ Accepted → AcceptedTracks xs ys ts ms lens (length xs) 0 floats words
+  unfolding checkReportTracks
+  report-accepted floats words h =
+      let a = turn-rest _ _ h in
+      let b = turn-rest _ _ a in
+      accepted (length xs) 0 floats words (turn-first _ _ h) (turn-first _ _ a) (turn-first _ _ b) (turn-first _ _ (turn-rest _ _ b))

@@ -11,7 +11,7 @@ use lib.ListN.{length, getD}
 use lib.Ieee.{Float, nan}
 use Rattle.stay.specs.Trace.{Fix, timeOf, fixes}
 use Rattle.tracks.specs.declared.refusal.Checked.{Checked}
-use Rattle.tracks.specs.Tracks.{checkContents, checkTracks}
+use Rattle.tracks.specs.Tracks.{checkContents, checkTracks, checkReportTracks}
 
 same-time : (m : ℕ) (t u : Float) → (m ≡ 1 → t ≡ u) → timeOf m t ≡ timeOf m u
 unfolding timeOf
@@ -41,3 +41,7 @@ pub same-check : (xs ys ts us : List Float) (ms lens : List ℕ) (labels places 
     → checkTracks xs ys ts ms lens labels places floats words ≡ checkTracks xs ys us ms lens labels places floats words
 unfolding checkTracks checkContents
 same-check xs ys ts us ms lens labels places floats words s = rw (same-fixes xs ys ts us ms s, s .0)
+
+pub same-report-check : (xs ys ts us : List Float) (ms lens : List ℕ) (floats words : ℕ) → SameMarked ts us ms → checkReportTracks xs ys ts ms lens floats words ≡ checkReportTracks xs ys us ms lens floats words
+unfolding checkReportTracks checkContents
+same-report-check xs ys ts us ms lens floats words s = rw (same-fixes xs ys ts us ms s, s .0)

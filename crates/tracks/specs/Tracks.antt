@@ -34,9 +34,12 @@ checkLengths lens n ys ts ms labels =
     ∷ refuseIf (not (sameLengths n ys ts ms labels && eqb (total lens) n)) Lengths
     ∷ [])
 
--- 9.
-unfoldable pub checkCounts : ℕ → ℕ → ℕ → Checked
-checkCounts traces fixes places = refuseIf (ltb 256 traces || ltb 65536 fixes || eqb places 0 || ltb 512 places) Counts
+-- 9: of the traces and fixes, and of the places.
+unfoldable pub checkCounts : ℕ → ℕ → Checked
+checkCounts traces fixes = refuseIf (ltb 256 traces || ltb 65536 fixes) Counts
+
+unfoldable pub checkPlaces : ℕ → Checked
+checkPlaces places = refuseIf (eqb places 0 || ltb 512 places) Counts
 
 -- 10: 4 × fixes + places² f64 and 4 × fixes + 8 × places 32-bit numbers.
 unfoldable pub checkWork : ℕ → ℕ → ℕ → ℕ → Checked
@@ -55,12 +58,23 @@ checkContents xs ys ts ms lens =
     ∷ eachFrom checkSize 0 (traces lens (fixes xs ys ts ms))
     ∷ [])
 
--- All in order. `labels` is the length of the label slice, `floats` and `words` those of the work slices.
+-- All in order, for a fit. `labels` is the length of the label slice, `floats` and `words` those of the work slices.
 unfoldable pub checkTracks : List Float → List Float → List Float → List ℕ → List ℕ → ℕ → ℕ → ℕ → ℕ → Checked
 checkTracks xs ys ts ms lens labels places floats words =
     inTurn
     (checkLengths lens (length xs) (length ys) (length ts) (length ms) labels
-    ∷ checkCounts (length lens) (length xs) places
+    ∷ checkCounts (length lens) (length xs)
+    ∷ checkPlaces places
     ∷ checkWork (length xs) places floats words
+    ∷ checkContents xs ys ts ms lens
+    ∷ [])
+
+-- For a report, which has neither a label slice nor `places`: its work is 4 × fixes numbers of each kind.
+unfoldable pub checkReportTracks : List Float → List Float → List Float → List ℕ → List ℕ → ℕ → ℕ → Checked
+checkReportTracks xs ys ts ms lens floats words =
+    inTurn
+    (checkLengths lens (length xs) (length ys) (length ts) (length ms) (length xs)
+    ∷ checkCounts (length lens) (length xs)
+    ∷ checkWork (length xs) 0 floats words
     ∷ checkContents xs ys ts ms lens
     ∷ [])

@@ -14,7 +14,7 @@ ghost use lib.Ieee.{Float};
 ghost use Rattle.stay.specs.Trace.{fixes};
 ghost use Rattle.tracks.specs.Checks.{eachFrom};
 ghost use Rattle.tracks.specs.Traces.{checkTrace, checkSize};
-ghost use Rattle.tracks.specs.Tracks.{total, traces, checkContents, checkTracks};
+ghost use Rattle.tracks.specs.Tracks.{total, traces, checkContents, checkTracks, checkReportTracks};
 
 // 11 to 15, trace by trace.
 fn check_traces(xs: &[f64], ys: &[f64], times: &[f64], marks: &[u8], lens: &[u32]) -> Checked
@@ -76,7 +76,7 @@ fn check_contents(xs: &[f64], ys: &[f64], times: &[f64], marks: &[u8], lens: &[u
     check_sizes(xs, ys, lens)
 }
 
-// All checks of tracks. `labels` is the length of the label slice, `floats` and `words` those of the work slices.
+// All checks of tracks for a fit. `labels` is the length of the label slice, `floats` and `words` those of the work slices.
 pub fn check_tracks(
     xs: &[f64],
     ys: &[f64],
@@ -95,11 +95,43 @@ pub fn check_tracks(
     if crate::refusal::is_refused(a) {
         return a;
     }
-    let b = crate::slices::check_counts(lens.len(), n, places);
+    let b = crate::slices::check_counts(lens.len(), n);
     if crate::refusal::is_refused(b) {
         return b;
     }
-    let c = crate::slices::check_work(n, places, floats, words);
+    let c = crate::slices::check_places(places);
+    if crate::refusal::is_refused(c) {
+        return c;
+    }
+    let d = crate::slices::check_work(n, places, floats, words);
+    if crate::refusal::is_refused(d) {
+        return d;
+    }
+    check_contents(xs, ys, times, marks, lens)
+}
+
+// All checks of tracks for a report, which has neither a label slice nor `places`.
+pub fn check_report_tracks(
+    xs: &[f64],
+    ys: &[f64],
+    times: &[f64],
+    marks: &[u8],
+    lens: &[u32],
+    floats: usize,
+    words: usize,
+) -> Checked
+    ensures { λ r. ⌜ r ≡ checkReportTracks (now (xs .entry)) (now (ys .entry)) (now (times .entry)) (now (marks .entry)) (now (lens .entry)) floats words ⌝ }
+{
+    let n = xs.len();
+    let a = crate::slices::check_lengths(lens, n, ys.len(), times.len(), marks.len(), n);
+    if crate::refusal::is_refused(a) {
+        return a;
+    }
+    let b = crate::slices::check_counts(lens.len(), n);
+    if crate::refusal::is_refused(b) {
+        return b;
+    }
+    let c = crate::slices::check_work(n, 0, floats, words);
     if crate::refusal::is_refused(c) {
         return c;
     }
