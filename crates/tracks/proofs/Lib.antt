@@ -5,3 +5,4 @@ pub mod Lengths
 pub mod Usable
 pub mod Accepted
 pub mod Unread
+pub mod UsableConfig

@@ -20,6 +20,20 @@ pub total-drop : (ns : List ℕ) (k : ℕ) → k < length ns → total (drop k n
 unfolding total
 total-drop ns k h = rw (add-one k, drop-cons ns k 0 h)
 
+-- ---- where a trace lies
+
+pub offset-within : (ns : List ℕ) (k : ℕ) → k < length ns → total (take k ns) + getD ns k 0 ≤ total ns
+unfolding total
+offset-within [] k h = absurd (omega arith)
+offset-within (n ∷ ns) zero h = omega arith
+offset-within (n ∷ ns) (suc k) h = omega (arith, offset-within ns k (omega arith))
+
+pub trace-at : (ns : List ℕ) (fs : List Fix) (k : ℕ) → k < length ns → getD (traces ns fs) k [] ≡ take (getD ns k 0) (drop (total (take k ns)) fs)
+unfolding total traces
+trace-at [] fs k h = absurd (omega arith)
+trace-at (n ∷ ns) fs zero h = refl
+trace-at (n ∷ ns) fs (suc k) h = trace-at ns (drop n fs) k (omega arith) ∙ ap (take (getD ns k 0)) (drop-drop (total (take k ns)) n fs)
+
 -- ---- parts of the columns
 
 fixes-take : (n : ℕ) (xs ys ts : List Float) (ms : List ℕ) → fixes (take n xs) (take n ys) (take n ts) (take n ms) ≡ take n (fixes xs ys ts ms)
