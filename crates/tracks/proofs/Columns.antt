@@ -17,7 +17,8 @@ use Rattle.stay.proofs.Fixes.{noFix, fixes-length, fixes-at, timed-marked}
 use Rattle.tracks.specs.declared.refusal.Checked.{Checked}
 use Rattle.tracks.specs.declared.refusal.Checked.the-variants.{Accepted}
 use Rattle.tracks.specs.Checks.{isRefused, eachOf}
-use Rattle.tracks.specs.Traces.{untimed, partlyTimed, above, aboveFirst, inTimeOrder, noneMarked, columnAbove, columnsInOrder}
+use Rattle.tracks.specs.Traces.{untimed, partlyTimed, above, aboveFirst, inTimeOrder}
+use Rattle.tracks.specs.Columns.{noneMarked, columnAbove, columnsInOrder}
 use Rattle.tracks.proofs.Turns.{each-on, each-stop, each-end}
 
 -- ---- a check at each fix, in a loop over the columns

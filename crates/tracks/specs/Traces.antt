@@ -9,7 +9,7 @@ use lib.Ieee.{Float, lt}
 use Rattle.float.specs.Binary64.{finite}
 use Rattle.distance.specs.declared.Point.{Point}
 use Rattle.distance.specs.Limit.{inLimit}
-use Rattle.stay.specs.Trace.{Fix, timeOf, hasTime, timed}
+use Rattle.stay.specs.Trace.{Fix, hasTime, timed}
 use Rattle.tracks.specs.declared.refusal.Refusal.the-variants.{EmptyTrace, Coordinate, Timestamp, PartlyTimed, TimeOrder, CoordinateSize}
 use Rattle.tracks.specs.declared.refusal.Checked.{Checked}
 use Rattle.tracks.specs.Checks.{refuseIf, inTurn, eachOf}
@@ -65,21 +65,3 @@ checkFixSize k f = refuseIf (not (inLimit (f .at))) (CoordinateSize k)
 
 unfoldable pub checkSize : ℕ → List Fix → Checked
 checkSize k t = eachOf (checkFixSize k) t
-
--- ---- what the functions compute from columns of times and marks
-
--- No mark is 1.
-unfoldable pub noneMarked : List ℕ → Bool
-noneMarked [] = true
-noneMarked (m ∷ ms) = not (eqb m 1) && noneMarked ms
-
-unfoldable pub columnAbove : Option Float → List Float → List ℕ → Bool
-columnAbove t [] ms = false
-columnAbove t (u ∷ us) [] = false
-columnAbove t (u ∷ us) (m ∷ ms) = above t (timeOf m u)
-
--- No time is above the next.
-unfoldable pub columnsInOrder : List Float → List ℕ → Bool
-columnsInOrder [] ms = true
-columnsInOrder (t ∷ ts) [] = true
-columnsInOrder (t ∷ ts) (m ∷ ms) = not (columnAbove (timeOf m t) ts ms) && columnsInOrder ts ms

@@ -11,7 +11,8 @@ ghost use lib.Ieee.{Float};
 ghost use Rattle.stay.specs.Trace.{timeOf, fixes};
 ghost use Rattle.stay.specs.Steps.{allMarked};
 ghost use Rattle.tracks.specs.Checks.{eachOf};
-ghost use Rattle.tracks.specs.Traces.{above, noneMarked, columnsInOrder, checkFix, checkTimes, checkTrace, checkSize};
+ghost use Rattle.tracks.specs.Traces.{above, checkFix, checkTimes, checkTrace, checkSize};
+ghost use Rattle.tracks.specs.Columns.{noneMarked, columnsInOrder};
 
 // 12 and 13 of one fix. The value of a time whose mark is not 1 is not looked at.
 fn check_fix(k: usize, p: Point, mark: u8, time: f64) -> Checked

@@ -9,7 +9,8 @@ use lib.Ieee.{Float}
 use Rattle.stay.specs.Trace.{fixes}
 use Rattle.stay.specs.Steps.{allMarked}
 use Rattle.tracks.specs.Checks.{refuseIf, firstOf, inTurn}
-use Rattle.tracks.specs.Traces.{partlyTimed, inTimeOrder, noneMarked, columnsInOrder, checkTimes}
+use Rattle.tracks.specs.Traces.{partlyTimed, inTimeOrder, checkTimes}
+use Rattle.tracks.specs.Columns.{noneMarked, columnsInOrder}
 use Rattle.tracks.proofs.Columns.{partly-columns, order-columns}
 use borrow.Author.Needs.{needs}
 use Rattle.tracks.proofs.trace.check_times.Statement.{statement}

@@ -3,7 +3,7 @@ use mathlib.Core.Path.{_≡_, refl}
 use Prim.Native.Nat.{_-_, _≤_}
 use native.Mathlib.Omega.{arith}
 use lib.ListN.{length, drop}
-use Rattle.tracks.specs.Traces.{columnsInOrder}
+use Rattle.tracks.specs.Columns.{columnsInOrder}
 use Rattle.tracks.proofs.Columns.{order-on, order-stop, order-end}
 use borrow.Author.Needs.{needs}
 use Rattle.tracks.proofs.trace.in_time_order.Statement.{statement}

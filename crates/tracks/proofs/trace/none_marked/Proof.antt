@@ -2,7 +2,7 @@
 use mathlib.Core.Path.{_≡_, refl}
 use Prim.Native.Nat.{_-_}
 use lib.ListN.{length, drop}
-use Rattle.tracks.specs.Traces.{noneMarked}
+use Rattle.tracks.specs.Columns.{noneMarked}
 use Rattle.tracks.proofs.Columns.{none-on, none-stop, none-end}
 use borrow.Author.Needs.{needs}
 use Rattle.tracks.proofs.trace.none_marked.Statement.{statement}
