@@ -1,12 +1,11 @@
 -- The limit against a float: two comparisons tell whether a coordinate is within it. Assumes nothing.
 use mathlib.Core.Path.{_≡_, refl, sym, ap, _∙_}
-use Prim.Native.Nat.{ℕ, _+_, _*_, _≤_, _<_}
-use native.Mathlib.Nat.{mul-pos}
+use Prim.Native.Nat.{ℕ, _+_, _*_, _<_}
 use native.Mathlib.Omega.{arith}
-use mathlib.Core.Bool.{Bool, true, false, not, _&&_, _||_, false≢true}
+use mathlib.Core.Bool.{Bool, true, false, _&&_, _||_, false≢true}
 use borrow.Author.Tests.{ltb-true, ltb-false, leb-true, leb-false, eqb-true, eqb-false, lt-ltb, le-leb, lt-leb}
 use lib.Dec.{leb, ltb, eqb}
-use lib.Ieee.{Float, nan, inf, fin, binary64, up, down, lt, le, eq, neg, ofInt}
+use lib.Ieee.{Float, nan, inf, fin, up, down, lt, le, eq, neg, ofInt}
 use lib.Ieee.Fits.{down-pos}
 use Rattle.float.specs.Binary64.{whole64}
 use Rattle.distance.specs.Limit.{limit, within}

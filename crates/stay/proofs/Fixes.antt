@@ -1,13 +1,13 @@
 -- The fixes that lists stand for, one by one, and their times. Assumes nothing.
 use mathlib.Core.Path.{_≡_, refl, sym, ap, ap₂, _∙_}
-use mathlib.Core.Bool.{Bool, true, false, _&&_, cond, false≢true}
+use mathlib.Core.Bool.{Bool, true, false, _&&_, cond}
 use mathlib.Core.List.{List, [], _∷_, _++_, map}
 use mathlib.Core.Option.{Option, none, some}
-use Prim.Native.Nat.{ℕ, zero, suc, _+_, _-_, _<_, _≤_}
+use Prim.Native.Nat.{ℕ, zero, suc, _+_, _-_, _<_}
 use native.Mathlib.Omega.{arith}
 use borrow.Author.Tests.{eqb-true}
 use lib.Dec.{eqb}
-use lib.ListN.{length, getD, length-append, length-map, List·getD-map, List·getD-append}
+use lib.ListN.{length, getD, length-append, length-map}
 use lib.Seq.{getD-at}
 use lib.Ieee.{Float, nan}
 use Rattle.lists.proofs.Tests.{and-left, and-right}
@@ -25,10 +25,6 @@ pointAt fs i = getD fs i noFix .at
 
 abbrev pub timeAt : List Fix → ℕ → Option Float
 timeAt fs i = getD fs i noFix .time
-
--- lists of one length
-abbrev Long : List Float → List Float → List Float → List ℕ → Type 0
-Long xs ys ts ms = (length ys ≡ length xs) × (length ts ≡ length xs) × (length ms ≡ length xs)
 
 pub fixes-length : (xs ys ts : List Float) (ms : List ℕ) → length ys ≡ length xs → length ts ≡ length xs → length ms ≡ length xs → length (fixes xs ys ts ms) ≡ length xs
 unfolding fixes

@@ -1,20 +1,19 @@
 -- The run of the steps over a trace ends in the state that the definition of stays gives. Assumes nothing.
 use mathlib.Core.Path.{_≡_, refl, sym, ap, ap₂, _∙_, subst}
-use mathlib.Core.Bool.{Bool, true, false, not, _&&_, _||_, cond}
+use mathlib.Core.Bool.{Bool, true, false, not, _&&_, _||_}
 use mathlib.Core.List.{List, [], _∷_, _++_, map, append-assoc, append-nil}
-use mathlib.Core.Option.{Option, none, some}
+use mathlib.Core.Option.{Option, some}
 use Prim.Native.Nat.{ℕ, zero, suc, _+_, _-_, _<_, _≤_}
 use native.Mathlib.Nat.{add-zero}
 use native.Mathlib.Numerals.{add-one}
 use native.Mathlib.Omega.{arith}
 use lib.Dec.{leb}
-use lib.IntN.{ℤ}
-use lib.ListN.{length, getD, set, drop, replicate, length-append, drop-of-length-le}
+use lib.ListN.{length, getD, drop, replicate, length-append, drop-of-length-le}
 use lib.Seq.{sets, drop-cons}
 use lib.Ieee.{Float, nan, le}
 use Rattle.distance.specs.declared.Point.{Point}
 use Rattle.stay.specs.declared.StaySettings.{StaySettings}
-use Rattle.stay.specs.Ordered.{ordered, orderedFrom, insertOrdered, median}
+use Rattle.stay.specs.Ordered.{ordered, insertOrdered, median}
 use Rattle.stay.specs.Trace.{Fix}
 use Rattle.stay.specs.Stays.{middle, since, firstTime, lastTime, joins, isStay, groupsFrom, mediansOf, eventNumber, eventsFrom}
 use Rattle.stay.specs.Steps.{State, midOf, taken, kept, closed, step, joinTest, stayTest, elapsed}

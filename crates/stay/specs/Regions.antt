@@ -1,10 +1,9 @@
 -- A work slice of four parts of equal length q: the open group's x and y in order, and the medians' x and y. Definitions only.
-use Prim.Native.Nat.{ℕ, zero, suc, _+_, _*_, _/_, _≤_, _<_, _^_}
+use Prim.Native.Nat.{ℕ, _+_, _≤_, _<_}
 use mathlib.Core.Path.{_≡_}
 use mathlib.Core.List.{List, [], _∷_, _++_}
-use lib.ListN.{length, take, drop, set}
+use lib.ListN.{length, take, drop}
 use lib.Ieee.{Float}
-use lib.IntN.{ℤ}
 use mathlib.Core.Bool.{true}
 use Rattle.distance.specs.declared.Point.{Point}
 use Rattle.stay.specs.Ordered.{insertOrdered, inOrder, median}
