@@ -44,6 +44,11 @@ fixes-at (x ∷ xs) (y ∷ ys) (t ∷ ts) [] i a b c h = absurd (omega arith)
 fixes-at (x ∷ xs) (y ∷ ys) (t ∷ ts) (m ∷ ms) zero a b c h = refl
 fixes-at (x ∷ xs) (y ∷ ys) (t ∷ ts) (m ∷ ms) (suc i) a b c h = fixes-at xs ys ts ms i (omega arith) (omega arith) (omega arith) (omega arith)
 
+-- the value beside a mark 0 does not matter
+pub time-unread : (t t' : Float) → timeOf 0 t ≡ timeOf 0 t'
+unfolding timeOf
+time-unread t t' = refl
+
 -- the trace is timed if all marks are 1
 has-time-of : (m : ℕ) (t : Float) → hasTime (timeOf m t) ≡ eqb m 1
 unfolding hasTime timeOf

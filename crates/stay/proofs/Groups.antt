@@ -64,12 +64,12 @@ module _ (dist : Point → Point → Float) (s : StaySettings) where
   groups-few-concat [] = omega arith
   groups-few-concat (f ∷ fs) = groups-few-from (timed (f ∷ fs)) (f ∷ []) fs (omega arith)
 
-  medians-of : (t : Bool) (gs : List (List Fix)) → length (mediansOf dist s t gs) ≤ length gs
+  medians-of : (t : Bool) (gs : List (List Fix)) → length (mediansOf s t gs) ≤ length gs
   unfolding mediansOf
   medians-of t [] = omega arith
-  medians-of t (g ∷ gs) = go (isStay dist s t g) (medians-of t gs)
+  medians-of t (g ∷ gs) = go (isStay s t g) (medians-of t gs)
     where
-      go : (b : Bool) → length (mediansOf dist s t gs) ≤ length gs → length (cond b (middle g ∷ mediansOf dist s t gs) (mediansOf dist s t gs)) ≤ suc (length gs)
+      go : (b : Bool) → length (mediansOf s t gs) ≤ length gs → length (cond b (middle g ∷ mediansOf s t gs) (mediansOf s t gs)) ≤ suc (length gs)
       go true h = omega arith
       go false h = omega arith
 

@@ -140,7 +140,7 @@ module _ (s : StaySettings) (xs ys ts : List Float) (ms : List ℕ) (ly : length
     abbrev pub Last : List Float → List ℤ → Open → Type 0
     Last v e o = stateOf q (length xs) v e o ≡ closed s t ts (length xs) (run euclidean s t ts fs 1 (length xs - 1) first-state)
 
-    stays-are : (v : List Float) (e : List ℤ) (o : Open) → Last v e o → o .stays ≡ found + length (mediansOf euclidean s t (groups euclidean s fs))
+    stays-are : (v : List Float) (e : List ℤ) (o : Open) → Last v e o → o .stays ≡ found + length (mediansOf s t (groups euclidean s fs))
     unfolding stateOf
     stays-are v e o st = ap (λ (z : State). z .stays) st ∙ all-ends .stays
 
@@ -157,7 +157,7 @@ module _ (s : StaySettings) (xs ys ts : List Float) (ms : List ℕ) (ly : length
     whole v e o qe lv le st =
         let timing : timed fs ≡ t = sym (timed-marked xs ys ts ms ly lt lm) in
         let start : o .start ≡ length xs = ap (λ (z : State). z .start) st in
-        let ps = mediansOf euclidean s t (groups euclidean s fs) in
+        let ps = mediansOf s t (groups euclidean s fs) in
         record {
           count = rw timing (omega (arith, stays-are v e o st));
           numbered = rw timing (sym (take-all (o .start) e (omega (arith, start, le))) ∙ ap (λ (z : State). z .events) st ∙ all-ends .events);

@@ -35,7 +35,7 @@ unfoldable pub middleIn : ℕ → ℕ → List Float → Point
 middleIn q len w = record { x = median (take len (part 0 q w)); y = median (take len (part q q w)) }
 
 -- There is room for one more, and what is there is in order.
-pub record Both (q len : ℕ) (w : List Float) : Type 0 where
+pub record CanInsert (q len : ℕ) (w : List Float) : Type 0 where
   pub more : len < q
   pub fits : q + q ≤ length w
   pub x-order : inOrder (take len (part 0 q w)) ≡ true
