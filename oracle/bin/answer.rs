@@ -94,7 +94,7 @@ fn neighbors(n: &mut Numbers, out: &mut Line) {
     }
     out.put(edges.len());
     for (a, b, w) in edges {
-        out.put(a).put(b).put(w);
+        out.put(a).put(b).float(w);
     }
     out.put(places.len() - singles.len());
     for i in (0..places.len()).filter(|i| !singles.contains(i)) {

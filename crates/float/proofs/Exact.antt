@@ -1,19 +1,22 @@
 -- Sums and differences of floats that are whole numbers. A sum of two whole numbers is that whole number, rounded once (`add-like`, `add-fall`, `add-under`, `add-rise`,
 -- `add-sink`); whole numbers of size up to 2 ^ 53 are held, so their sums and differences of that size are exact (`whole-add`, `whole-sub`, `whole-difference`). A difference of equal numbers is
--- +0.0, and -0.0 comes only from two negative zeros. `add-minus-minus` and `add-plus-minus` are the changes of an exit weight by a move. Assumes nothing.
-use mathlib.Core.Path.{_≡_, refl, sym, ap, _∙_, subst}
-use Prim.Native.Nat.{ℕ, zero, suc, _+_, _-_, _*_, _^_, _≤_, _<_}
-use native.Mathlib.Nat.{mul-pos, zero-lt-suc, mul-one, mul-assoc, mul-comm, mul-right-comm, add-mul, mul-le-mul-right, not-le-of-lt, mul-lt-mul-of-pos-right, mul-sub}
+-- +0.0, and -0.0 comes only from two negative zeros. `add-minus-minus` and `add-plus-minus` are the changes of an exit weight by a move. The order of whole floats is that of
+-- the numbers (`whole-lt`, `whole-le`). Assumes nothing.
+use mathlib.Core.Path.{_≡_, refl, sym, ap, ap₂, _∙_}
+use Prim.Native.Nat.{ℕ, suc, _+_, _-_, _*_, _^_, _≤_, _<_}
+use native.Mathlib.Nat.{mul-pos, zero-lt-suc, mul-one, mul-assoc, mul-comm, add-mul, mul-le-mul-right, not-le-of-lt, mul-lt-mul-of-pos-right, mul-sub, lt-of-mul-lt-mul-right}
 use native.Mathlib.Decide.{decLe}
 use native.Mathlib.Omega.{arith}
-use mathlib.Core.Bool.{Bool, true, false, not, _&&_, cond}
-use lib.IntN.{ℤ, pos, negsuc}
-use lib.Dec.{T, ltb, leb, ltb→lt, lt→ltb, nltb→le, leb→le, nleb→lt}
-use lib.Ieee.{Float, nan, inf, fin, Format, binary64, prec, up, down, minus, round, sum, add, sub, neg, ofInt, ofBits}
+use mathlib.Core.Bool.{Bool, true, false, not, cond}
+use lib.IntN.{pos, negsuc}
+use lib.Dec.{T, ltb, leb, ltb→lt, lt→ltb, nltb→le, leb→le, nleb→lt, le→leb}
+use lib.Ieee.{Float, nan, inf, fin, Format, binary64, up, down, minus, round, sum, add, sub, neg, below, lt, le, isNan, ofInt, ofBits}
 use lib.Ieee.Fits.{down-pos}
+use lib.Arith.{le→nltb}
 use lib.Ieee.Exact.{HasValue}
 use lib.Ieee.Scale.{round-same}
 use lib.Ieee.Back.{round-whole}
+use Rattle.float.proofs.Order.{same-truth, le-is}
 use Rattle.float.specs.Binary64.{add64, sub64, whole64, zero64}
 
 -- x is the whole number a with the sign s
@@ -207,3 +210,35 @@ add-plus-minus e a b c he hac hb le = ap (λ (w : Float). add64 (whole64 e) (sub
         ∙ add-fall binary64 (whole64 e) (round binary64 true (b - (a + c)) 1) e (b - (a + c)) (is-whole e he) (is-round true (b - (a + c)) (omega arith)) (omega arith)
         ∙ sym (whole-round (e - (b - (a + c))))
         ∙ ap whole64 (omega arith)
+
+-- ---- order
+
+scaled-lt : (a b c : ℕ) → 0 < c → ltb (a * c) (b * c) ≡ ltb a b
+scaled-lt a b c p =
+    same-truth (ltb (a * c) (b * c)) (ltb a b) (λ t. lt→ltb a b (lt-of-mul-lt-mul-right c (ltb→lt (a * c) (b * c) t))) (λ t. lt→ltb (a * c) (b * c) (mul-lt-mul-of-pos-right (ltb→lt a b t) p))
+
+is-lt : (x y : Float) (a b : ℕ) → Is x false a → Is y false b → lt x y ≡ ltb a b
+unfolding lt
+is-lt nan y a b h k = absurd h
+is-lt (inf s) y a b h k = absurd h
+is-lt (fin s m e) nan a b h k = absurd k
+is-lt (fin s m e) (inf t) a b h k = absurd k
+is-lt (fin s m e) (fin t n d) a b h k =
+    ap₂ (λ (u v : Bool). below u (m * up e * down d) v (n * up d * down e)) (h .0) (k .0)
+    ∙ ap₂ ltb (part m (up e) a (down e) (down d) (h .1)) (part' n (up d) b (down d) (down e) (k .1))
+    ∙ scaled-lt a b (down e * down d) (mul-pos (down-pos e) (down-pos d))
+
+pub whole-lt : (a b : ℕ) → a ≤ most → b ≤ most → lt (whole64 a) (whole64 b) ≡ ltb a b
+whole-lt a b h k = is-lt (whole64 a) (whole64 b) a b (is-whole a h) (is-whole b k)
+
+is-number : (x : Float) (s : Bool) (a : ℕ) → Is x s a → T (not (isNan x))
+unfolding isNan
+is-number nan s a h = absurd h
+is-number (inf t) s a h = tt
+is-number (fin t m e) s a h = tt
+
+pub whole-le : (a b : ℕ) → a ≤ most → b ≤ most → le (whole64 a) (whole64 b) ≡ leb a b
+whole-le a b h k =
+    le-is (whole64 a) (whole64 b) (is-number (whole64 a) false a (is-whole a h)) (is-number (whole64 b) false b (is-whole b k))
+    ∙ ap not (whole-lt b a k h)
+    ∙ same-truth (not (ltb b a)) (leb a b) (λ t. le→leb a b (nltb→le b a t)) (λ t. le→nltb b a (leb→le a b t))

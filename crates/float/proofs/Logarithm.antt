@@ -1,21 +1,21 @@
 -- How the k and m of `ln` are read off the bits of p (`ln-low`, `ln-high`). What they are is in `proofs/Split.antt`. Assumes nothing.
 use mathlib.Core.Path.{_≡_, refl, sym, ap, _∙_, subst}
 use Prim.Native.Nat.{ℕ, zero, suc, _+_, _-_, _*_, _/_, _%_, _^_, _≤_, _<_, zero-le}
-use native.Mathlib.Nat.{le-of-suc-le-suc, lt-irrefl, lt-of-not-le, lt-of-lt-of-le, lt-of-le-of-lt, le-trans, le-of-eq, mul-assoc, mul-comm, mul-right-comm, mul-one, mul-le-mul-right, mul-le-mul-left, mul-lt-mul-of-pos-right, mul-pos, zero-lt-suc, eq-of-mul-eq-mul-right, zero-mul}
+use native.Mathlib.Nat.{le-of-suc-le-suc, lt-irrefl, lt-of-not-le, lt-of-lt-of-le, lt-of-le-of-lt, le-trans, le-of-eq, mul-assoc, mul-right-comm, mul-one, mul-le-mul-right, mul-le-mul-left, mul-lt-mul-of-pos-right, mul-pos, zero-lt-suc, eq-of-mul-eq-mul-right, zero-mul}
 use native.Mathlib.Omega.{arith}
 use mathlib.Core.Bool.{Bool, true, false, not, _&&_, cond, true≢false}
 use lib.IntN.{ℤ, pos, negsuc, subℕ, _+ℤ_}
 use lib.Dec.{T, leb·suc-zero, ltb, leb, eqb, leb→le, nleb→lt, ltb→lt, nltb→le, lt→ltb, le→leb, lit≤}
 use lib.Arith.{le→nltb}
-use lib.Pow.{pow-add, pow-pos, pow-mono, pow-lt, shl-lt}
-use lib.Ieee.{Float, nan, inf, fin, Format, binary64, prec, low, up, down, minus, size, odd, fits, ofInt, nanBits, ofBits}
-use lib.Ieee.Digits.{size-lt, size-reaches, minus-val}
+use lib.Pow.{pow-add, pow-pos, pow-mono, shl-lt}
+use lib.Ieee.{Float, nan, inf, fin, binary64, up, down, minus, size, odd, fits, ofInt, ofBits}
+use lib.Ieee.Digits.{size-lt, size-reaches}
 use lib.Ieee.Exact.{HasValue, odd-sign}
 use lib.Ieee.Fits.{and-i, and-l, and-r, down-pos}
-use lib.Ieee.Bits.{is-true, is-false, ofBits-fits, nanBits-above}
+use lib.Ieee.Bits.{is-true, is-false, ofBits-fits}
 use Rattle.float.specs.Binary64.{sub64, whole64}
-use Rattle.float.specs.Ln.{lnOf, shift, exponent, mantissa, ln}
-use Rattle.float.specs.Parts.{Unpacked, Lifted}
+use Rattle.float.specs.Ln.{lnOf, shift, ln}
+use Rattle.float.specs.Parts.{Unpacked, Normal}
 use Rattle.float.proofs.Rounding.{size-is}
 use Rattle.float.proofs.Unpacking.{of-normal}
 use Rattle.float.proofs.Packing.{value-unique}
@@ -134,13 +134,6 @@ mantissa-bits m k lo hi h =
     field : (m k : ℕ) → 2 ^ 52 ≤ m → m < 2 ^ 53 → (m + k * 2 ^ 52) / 2 ^ 52 - 1 ≡ k
     field m k lo hi = omega arith
 
--- such a pattern is no NaN's
-pub mantissa-number : (m k : ℕ) → m < 2 ^ 53 → k < 2046 → T (not (nanBits binary64 (m + k * 2 ^ 52)))
-mantissa-number m k h l = subst (λ (b : Bool). T (not b)) (sym (nanBits-above binary64 (m + k * 2 ^ 52))) (le→nltb (2047 * 2 ^ 52) ((m + k * 2 ^ 52) % 2 ^ 63) (under m k h l))
-  where
-    under : (m k : ℕ) → m < 2 ^ 53 → k < 2046 → (m + k * 2 ^ 52) % 2 ^ 63 ≤ 2047 * 2 ^ 52
-    under m k h l = omega arith
-
 -- n / 2 ^ s in smallest values
 mantissa-value : (n m d s k l : ℕ) → n * 2 ^ 52 ≡ m * 2 ^ d → k + s ≡ l + d → HasValue (fin false n (minus 0 s)) false (m * 2 ^ k) (2 ^ (52 + l))
 mantissa-value n m d s k l e h = (
@@ -251,8 +244,8 @@ module _ (n m x : ℕ) (e : ℤ) (f : T (fits binary64 (fin false (suc n) e))) (
 
 -- ---- the steps of the code together
 
--- What `unpack` and `lift` make of the bits b.
-module _ (b m e m' x : ℕ) (u : Unpacked b m e) (l : Lifted m e m' x) where
+-- What `unpack` and `normalize` make of the bits b.
+module _ (b m e m' x : ℕ) (u : Unpacked b m e) (l : Normal m e m' x) where
   Low : Float → Type 0
   Low v = m' < 3 * 2 ^ 51 → ln v ≡ lnOf (sub64 (whole64 x) (whole64 2096)) (ofBits binary64 (m' + 1022 * 2 ^ 52))
 

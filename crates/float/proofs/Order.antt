@@ -3,17 +3,16 @@
 -- Both are false where NaN stands (`lt-numbers`, `le-numbers`). Nothing here is about a format. Assumes nothing.
 use mathlib.Core.Path.{_≡_, refl, sym, ap, ap₂, _∙_, subst}
 use mathlib.Core.Logic.{_⊎_, inl, inr}
-use Prim.Native.Nat.{ℕ, zero, suc, _+_, _-_, _*_, _≤_, _<_}
+use Prim.Native.Nat.{ℕ, zero, suc, _+_, _*_, _≤_, _<_}
 use native.Mathlib.Nat.{zero-lt-suc, mul-pos, mul-le-mul-right, mul-lt-mul-of-pos-right, not-le-of-lt, zero-mul}
 use native.Mathlib.Decide.{decLt}
 use native.Mathlib.Omega.{arith}
-use mathlib.Core.Bool.{Bool, true, false, not, _&&_, _||_, Bool·beq, true≢false, false≢true}
-use lib.IntN.{ℤ}
-use lib.Dec.{T, T-not, ltb, leb, eqb, ltb→lt, lt→ltb, nltb→le, eqb→eq, eqb-refl}
+use mathlib.Core.Bool.{Bool, true, false, not, _&&_, _||_, true≢false, false≢true}
+use lib.Dec.{T, ltb, eqb, ltb→lt, lt→ltb, nltb→le, eqb→eq}
 use lib.Arith.{le→nltb}
 use lib.Ieee.{Float, nan, inf, fin, up, down, below, level, lt, eq, le, isNan}
 use lib.Ieee.Fits.{down-pos, eq→eqb, and-i, and-l, and-r}
-use lib.Ieee.Bits.{is-true, is-false}
+use lib.Ieee.Bits.{is-true}
 use Rattle.float.specs.Binary64.{finite}
 
 -- ---- truth values
@@ -21,7 +20,7 @@ use Rattle.float.specs.Binary64.{finite}
 pub true→T : {b : Bool} → b ≡ true → T b
 true→T e = subst T (sym e) tt
 
-same-truth : (p q : Bool) → (T p → T q) → (T q → T p) → p ≡ q
+pub same-truth : (p q : Bool) → (T p → T q) → (T q → T p) → p ≡ q
 same-truth true true f g = refl
 same-truth true false f g = absurd (f tt)
 same-truth false true f g = absurd (g tt)

@@ -2,12 +2,12 @@
 -- and at or above zero (`root-finite`); it is a value of the format (`root-fits`), and the one nearest to the real root (`root-is-nearest`). Assumes nothing.
 use mathlib.Core.Path.{_≡_, refl, sym, ap, ap₂, _∙_, subst}
 use mathlib.Core.Logic.{_⊎_, inl, inr}
-use Prim.Native.Nat.{ℕ, zero, suc, _+_, _-_, _*_, _/_, _%_, _^_, _≤_, _<_, zero-le, compare}
-use native.Mathlib.Nat.{le-of-eq, lt-of-le-of-lt, lt-irrefl, zero-lt-suc, zero-mul, mul-pos, mul-assoc, mul-one, mul-right-comm, eq-of-mul-eq-mul-right, eq-zero-or-pos, not-le-of-lt}
+use Prim.Native.Nat.{ℕ, zero, suc, _+_, _-_, _*_, _/_, _^_, _≤_, _<_, zero-le, compare}
+use native.Mathlib.Nat.{le-of-eq, lt-of-le-of-lt, lt-irrefl, zero-lt-suc, zero-mul, mul-pos, mul-assoc, mul-one, eq-of-mul-eq-mul-right, eq-zero-or-pos, not-le-of-lt}
 use native.Mathlib.Omega.{arith}
-use mathlib.Core.Bool.{Bool, true, false, not, _&&_, cond, false≢true}
+use mathlib.Core.Bool.{Bool, true, false, not, cond, false≢true}
 use lib.IntN.{ℤ, pos, negsuc}
-use lib.Dec.{T, leb, ltb, eqb, ltb→lt, leb→le, nltb→le}
+use lib.Dec.{T, ltb, ltb→lt, nltb→le}
 use lib.Pow.{pow-add, pow-pos, pow-lt}
 use lib.Ieee.{Float, nan, inf, fin, binary64, up, down, odd, units, fits, lt, eq, le, ofBits}
 use lib.Ieee.Fits.{up-pos, down-pos, odd-fits, inf-fits, nan-fits, nearest-le, kept-lt}

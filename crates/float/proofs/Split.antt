@@ -1,13 +1,13 @@
 -- The k and m of `ln` are those that document 01 names: p = 2 ^ k * m with 0.75 ≤ m < 1.5 (`split`), where m is a value of the format (`mantissa-is`, `mantissa-held`), and there are no others
 -- (`split-unique`). Fractions are pairs of whole numbers: 2 ^ k is up k / down k. Assumes nothing.
-use mathlib.Core.Path.{_≡_, refl, sym, ap, _∙_, subst}
+use mathlib.Core.Path.{_≡_, refl, sym, ap, _∙_}
 use mathlib.Core.Logic.{_⊎_, inl, inr}
-use Prim.Native.Nat.{ℕ, zero, suc, _+_, _-_, _*_, _^_, _≤_, _<_}
-use native.Mathlib.Nat.{le-refl, le-trans, le-of-eq, lt-of-lt-of-le, lt-of-le-of-lt, lt-irrefl, mul-pos, mul-assoc, mul-comm, mul-right-comm, mul-one, one-mul, mul-le-mul-left, mul-le-mul-right, mul-lt-mul-of-pos-right, le-of-mul-le-mul-left, eq-of-mul-eq-mul-right, eq-of-mul-eq-mul-left, pow-suc}
+use Prim.Native.Nat.{ℕ, suc, _+_, _-_, _*_, _^_, _≤_, _<_}
+use native.Mathlib.Nat.{le-trans, le-of-eq, lt-of-lt-of-le, mul-pos, mul-assoc, mul-comm, mul-right-comm, mul-one, one-mul, mul-le-mul-left, mul-le-mul-right, mul-lt-mul-of-pos-right, le-of-mul-le-mul-left, eq-of-mul-eq-mul-right, eq-of-mul-eq-mul-left, pow-suc}
 use native.Mathlib.Decide.{decLt}
 use native.Mathlib.Omega.{arith}
 use mathlib.Core.Bool.{Bool, true, false, not, cond}
-use lib.IntN.{ℤ, pos, negsuc, subℕ, _+ℤ_}
+use lib.IntN.{ℤ, pos, negsuc, _+ℤ_}
 use lib.Dec.{T, ltb, ltb→lt, nltb→le}
 use lib.Pow.{pow-add, pow-pos, pow-mono}
 use lib.Ieee.{fin, binary64, up, down, minus, size, fits}

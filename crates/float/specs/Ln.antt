@@ -1,6 +1,6 @@
 -- Document 01's stand-in for ln, each operation rounded once, and plogp. Definitions only.
 use Prim.Native.Nat.{ℕ, zero, suc, _+_, _-_, _*_, _^_}
-use mathlib.Core.Bool.{Bool, true, false, cond}
+use mathlib.Core.Bool.{true, false, cond}
 use lib.IntN.{ℤ, pos, _+ℤ_}
 use lib.Dec.{ltb}
 use lib.Ieee.{Float, nan, inf, fin, binary64, size, minus, lt, ofInt, ofBits}
@@ -25,6 +25,7 @@ lnOf k m =
 
 -- A positive n * 2^e is 2^k * m with 0.75 <= m < 1.5, where m = n / 2^(shift n) and k = e + shift n.
 -- For an n of d + 1 binary digits n / 2^d lies at or above 1 and below 2: m is that where it is below 1.5, and half of it otherwise.
+-- `proofs/Split.antt` shows that this k and m are as said, and that no others are.
 unfoldable pub shift : ℕ → ℕ
 unfolding size
 shift n = let d = size n - 1 in cond (ltb (2 * n) (3 * 2 ^ d)) d (suc d)

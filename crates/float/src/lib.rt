@@ -1,4 +1,4 @@
-// IEEE 754's square root of an f64, by integer arithmetic alone.
+// Of an f64: the correctly rounded square root, document 01's stand-in for the natural logarithm, plogp and the finite test.
 ghost use mathlib.Core.Path.{_≡_};
 ghost use Prim.Native.Nat.{ℕ, _+_, _-_, _*_, _/_, _^_, _≤_, _<_};
 ghost use mathlib.Core.Bool.{false};
@@ -6,15 +6,15 @@ ghost use lib.Ieee.{binary64, ofBits, odd};
 ghost use Rattle.float.specs.Binary64.{one64, whole64, div64, finite};
 ghost use Rattle.float.specs.Root.{root};
 ghost use Rattle.float.specs.Ln.{series, lnOf, ln, plogp};
-ghost use Rattle.float.specs.Parts.{Unpacked, Lifted, Even, Rooted, Squared};
+ghost use Rattle.float.specs.Parts.{Unpacked, Normal, Even, Rooted, Squared};
 
 // The number m * 2^e.
-pub struct Scaled {
-    pub m: u64,
-    pub e: u64,
+struct Scaled {
+    m: u64,
+    e: u64,
 }
 
-// The magnitude of a finite value from its bits without a sign, in units of the smallest value.
+// The value whose bits are b, finite and above zero, is m * 2^e smallest values (2^-1074 each).
 fn unpack(b: u64) -> Scaled
     requires { ⌜ 0 < b ⌝ }
     requires { ⌜ b < 0x7ff0_0000_0000_0000 ⌝ }
@@ -30,12 +30,12 @@ fn unpack(b: u64) -> Scaled
     }
 }
 
-// m * 2^e units, times 2^1074, with an m of 53 digits.
-fn lift(m: u64, e: u64) -> Scaled
+// m * 2^e times 2^1074, with an m of 53 binary digits.
+fn normalize(m: u64, e: u64) -> Scaled
     requires { ⌜ 0 < m ⌝ }
     requires { ⌜ m < 2 ^ 53 ⌝ }
     requires { ⌜ e < 2046 ⌝ }
-    ensures { λ r. ⌜ Lifted m e (r .m) (r .e) ⌝ }
+    ensures { λ r. ⌜ Normal m e (r .m) (r .e) ⌝ }
 {
     let z = u64::leading_zeros(m) as u64 - 11;
     Scaled {
@@ -45,7 +45,7 @@ fn lift(m: u64, e: u64) -> Scaled
 }
 
 // The same number with an even exponent.
-fn even(m: u64, e: u64) -> Scaled
+fn even_exponent(m: u64, e: u64) -> Scaled
     requires { ⌜ 2 ^ 52 ≤ m ⌝ }
     requires { ⌜ m < 2 ^ 53 ⌝ }
     requires { ⌜ 1022 ≤ e ⌝ }
@@ -61,7 +61,7 @@ fn even(m: u64, e: u64) -> Scaled
 
 // The whole part of the root of m * 2^54, a binary digit a turn. p is the place of the last digit found, and
 // root * root + rest * p stays m * 2^54.
-fn digits(m: u64) -> u64
+fn root_by_digits(m: u64) -> u64
     requires { ⌜ m < 2 ^ 54 ⌝ }
     ensures { λ r. ⌜ Rooted m r ⌝ }
 {
@@ -81,9 +81,9 @@ fn digits(m: u64) -> u64
 }
 
 // hi * 2^54 + lo.
-pub struct Wide {
-    pub hi: u64,
-    pub lo: u64,
+struct Wide {
+    hi: u64,
+    lo: u64,
 }
 
 // r * r, in two parts.
@@ -101,8 +101,9 @@ fn square(r: u64) -> Wide
     }
 }
 
-// A number near the root of m * 2^54 and mostly a little below: nothing is promised of it but its size.
-fn guess(m: u64) -> u64
+// A number near the root of m * 2^54, as a rule a little below: two steps of Newton's method for 1 / sqrt. Nothing is promised of it but its size; it is checked
+// in whole numbers.
+fn estimate(m: u64) -> u64
     requires { ⌜ m < 2 ^ 54 ⌝ }
     ensures { λ r. ⌜ r < 2 ^ 54 ⌝ }
 {
@@ -121,8 +122,8 @@ fn guess(m: u64) -> u64
     (b % 0x10_0000_0000_0000 + 0x10_0000_0000_0000) * 2 - 2
 }
 
-// From a number r at or below the root up to it; d is what is left of m * 2^54 above r * r.
-fn climb(m: u64, from: u64, left: u64) -> u64
+// The whole part of the root of m * 2^54, one by one from a number at or below it; d is what is left of m * 2^54 above r * r.
+fn count_up(m: u64, from: u64, left: u64) -> u64
     requires { ⌜ m < 2 ^ 54 ⌝ }
     requires { ⌜ from * from + left ≡ m * 2 ^ 54 ⌝ }
     ensures { λ r. ⌜ Rooted m r ⌝ }
@@ -136,54 +137,54 @@ fn climb(m: u64, from: u64, left: u64) -> u64
     r
 }
 
-// The same in one leap, where it is short: q steps up at once, and what is left is mostly less than a step.
-fn leap(m: u64, r: u64, d: u64) -> u64
+// The same with q steps at once where the root is near: what is left then is as a rule less than a step.
+fn correct(m: u64, r: u64, d: u64) -> u64
     requires { ⌜ m < 2 ^ 54 ⌝ }
     requires { ⌜ r * r + d ≡ m * 2 ^ 54 ⌝ }
     ensures { λ r. ⌜ Rooted m r ⌝ }
 {
     if 0x80_0000_0000_0000 <= r {
-        return climb(m, r, d);
+        return count_up(m, r, d);
     }
     let c = 2 * r + 16;
     let q = d / c;
     if 16 < q {
-        return climb(m, r, d);
+        return count_up(m, r, d);
     }
-    climb(m, r + q, d % c + q * (16 - q))
+    count_up(m, r + q, d % c + q * (16 - q))
 }
 
-// The whole part of the root of m * 2^54: from a guess where its square is found at most that and near, else digit by digit.
-fn quick(m: u64) -> u64
+// The whole part of the root of m * 2^54: from an estimate where its square is at most that and near, else digit by digit.
+fn whole_root(m: u64) -> u64
     requires { ⌜ m < 2 ^ 54 ⌝ }
     ensures { λ r. ⌜ Rooted m r ⌝ }
 {
-    let g = guess(m);
-    let w = square(g);
+    let r = estimate(m);
+    let w = square(r);
     if m < w.hi {
-        return digits(m);
+        return root_by_digits(m);
     }
     let k = m - w.hi;
     if 512 <= k {
-        return digits(m);
+        return root_by_digits(m);
     }
     let all = k * 0x40_0000_0000_0000;
     if all < w.lo {
-        return digits(m);
+        return root_by_digits(m);
     }
-    leap(m, g, all - w.lo)
+    correct(m, r, all - w.lo)
 }
 
 // The root of the value whose bits are b, finite and above zero.
-fn positive(b: u64) -> f64
+fn sqrt_positive(b: u64) -> f64
     requires { ⌜ 0 < b ⌝ }
     requires { ⌜ b < 0x7ff0_0000_0000_0000 ⌝ }
     ensures { λ r. ⌜ r ≡ root binary64 (ofBits binary64 b) ⌝ }
 {
     let u = unpack(b);
-    let l = lift(u.m, u.e);
-    let s = even(l.m, l.e);
-    let r = quick(s.m);
+    let l = normalize(u.m, u.e);
+    let s = even_exponent(l.m, l.e);
+    let r = whole_root(s.m);
     f64::from_bits((s.e / 2 - 26) * 0x10_0000_0000_0000 + (r + 1) / 2)
 }
 
@@ -207,7 +208,7 @@ pub fn sqrt(x: f64) -> f64
     if 0x8000_0000_0000_0000 < b {
         return 0.0 / 0.0;
     }
-    positive(b)
+    sqrt_positive(b)
 }
 
 // The series of ln from t = 1/23 down to j = 1.
@@ -244,7 +245,7 @@ fn ln_positive(b: u64) -> f64
     ensures { λ r. ⌜ r ≡ ln (ofBits binary64 b) ⌝ }
 {
     let u = unpack(b);
-    let l = lift(u.m, u.e);
+    let l = normalize(u.m, u.e);
     let e = l.e as u32 as f64;
     if l.m < 0x18_0000_0000_0000 {
         ln_of(e - 2096.0, f64::from_bits(l.m + 0x3fe0_0000_0000_0000))

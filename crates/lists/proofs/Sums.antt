@@ -77,3 +77,15 @@ only-zero false = refl
 pub only-le : (b : Bool) (x : ℕ) → only b x ≤ x
 only-le true x = le-refl x
 only-le false x = omega arith
+
+-- One number more, at the end.
+pub sum-last : (n : ℕ) (f : ℕ → ℕ) → sum (suc n) f ≡ sum n f + f n
+unfolding sum
+sum-last zero f = omega arith
+sum-last (suc n) f = let r = sum-last n (λ v. f (suc v)) in omega arith
+
+pub sum-more : (m n : ℕ) (f : ℕ → ℕ) → m ≤ n → sum m f ≤ sum n f
+unfolding sum
+sum-more zero n f h = omega arith
+sum-more (suc m) zero f h = absurd (omega arith)
+sum-more (suc m) (suc n) f h = let r = sum-more m n (λ v. f (suc v)) (omega arith) in omega arith

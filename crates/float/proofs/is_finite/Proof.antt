@@ -1,7 +1,7 @@
 -- `float::is_finite` meets its contract. Assumes nothing.
 use mathlib.Core.Path.{_≡_, refl}
-use mathlib.Core.Bool.{Bool, true, false}
-use lib.Ieee.{Float, nan, inf, fin, binary64, lt, neg, ofBits, nanBits}
+use mathlib.Core.Bool.{true, false}
+use lib.Ieee.{Float, nan, inf, fin, lt, neg, ofBits, nanBits}
 use borrow.Author.Needs.{needs}
 use Rattle.float.specs.Binary64.{finite}
 use Rattle.float.proofs.is_finite.Statement.{statement}

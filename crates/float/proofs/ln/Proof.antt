@@ -1,10 +1,10 @@
 -- `float::ln` meets its contract: the values that it answers by itself are in `proofs/Special.antt`. Assumes nothing.
-use mathlib.Core.Path.{_≡_, refl, sym, ap, _∙_, subst}
+use mathlib.Core.Path.{_≡_, sym, ap, _∙_, subst}
 use Prim.Native.Nat.{ℕ, _%_, _^_, _≤_, _<_}
 use native.Mathlib.Omega.{arith}
 use mathlib.Core.Bool.{not}
 use lib.Dec.{T}
-use lib.Ieee.{Float, binary64, fits, isNan, toBits}
+use lib.Ieee.{binary64, fits, isNan, toBits}
 use lib.Ieee.Bits.{ofBits-toBits}
 use Rattle.float.specs.Ln.{ln}
 use Rattle.float.proofs.Special.{at-nan, no-nan, kept, ln-nan, ln-zero, ln-infinity, ln-negative, in-range}

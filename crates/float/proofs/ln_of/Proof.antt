@@ -1,5 +1,5 @@
 -- `float::ln_of` meets its contract. Assumes nothing.
-use mathlib.Core.Path.{_≡_, refl, ap}
+use mathlib.Core.Path.{ap}
 use lib.Ieee.{Float, nanBits}
 use borrow.Author.Needs.{needs}
 use Rattle.float.specs.Binary64.{add64, sub64, mul64, div64, one64, two64}

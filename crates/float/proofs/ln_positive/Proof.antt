@@ -1,11 +1,12 @@
 -- `float::ln_positive` meets its contract. Assumes nothing.
 use mathlib.Core.Path.{_≡_, refl, sym, ap, _∙_}
-use Prim.Native.Nat.{ℕ, _+_, _*_, _^_}
+use Prim.Native.Nat.{_+_, _*_, _^_}
 use native.Mathlib.Omega.{arith}
 use lib.Ieee.{Float, binary64, ofInt, ofBits}
 use Rattle.float.specs.Binary64.{sub64, whole64}
 use Rattle.float.specs.Ln.{lnOf}
-use Rattle.float.proofs.Logarithm.{mantissa-number, ln-low, ln-high}
+use Rattle.float.proofs.Special.{bits-number}
+use Rattle.float.proofs.Logarithm.{ln-low, ln-high}
 use borrow.Author.Needs.{needs}
 use Rattle.float.proofs.ln_positive.Statement.{statement}
 use Rattle.float.proofs.ln_positive.Tie as tie
@@ -13,8 +14,8 @@ use Rattle.float.proofs.ln_positive.Tie as tie
 unpack-requires : tie.Need-unpack-requires
 unpack-requires c κs = search needs
 
-lift-requires : tie.Need-lift-requires
-lift-requires c κs = search needs
+normalize-requires : tie.Need-normalize-requires
+normalize-requires c κs = search needs
 
 cast-e : tie.Need-cast-e
 cast-e c = search needs
@@ -26,7 +27,7 @@ add-ln-of : tie.Need-add-ln-of
 add-ln-of c = search needs
 
 float-from-bits-ln-of : tie.Need-float-from-bits-ln-of
-float-from-bits-ln-of c = let l = c .before .before .before .before .before .lift in mantissa-number (l .result .m) 1022 (l .ensures .short) (omega arith)
+float-from-bits-ln-of c = bits-number _ (omega arith)
 
 ln-of-requires : tie.Need-ln-of-requires
 ln-of-requires c κs = search needs
@@ -35,7 +36,7 @@ add-ln-of-2 : tie.Need-add-ln-of-2
 add-ln-of-2 c = search needs
 
 float-from-bits-ln-of-2 : tie.Need-float-from-bits-ln-of-2
-float-from-bits-ln-of-2 c = let l = c .before .before .before .before .before .lift in mantissa-number (l .result .m) 1021 (l .ensures .short) (omega arith)
+float-from-bits-ln-of-2 c = bits-number _ (omega arith)
 
 ln-of-requires-2 : tie.Need-ln-of-requires-2
 ln-of-requires-2 c κs = search needs
@@ -54,23 +55,23 @@ returns c =
     let l = c .before .before .before .before .before .before in
     let u = l .before in
     c .ln-of .ensures
-    ∙ ap (λ (z : Float). lnOf (sub64 (whole64 (l .lift .result .e)) z) (ofBits binary64 (l .lift .result .m + 1022 * 2 ^ 52))) places-low
-    ∙ sym (ln-low (u .before .args .b) _ _ _ _ (u .unpack .ensures) (l .lift .ensures) (c .before .before .if1 .taken))
+    ∙ ap (λ (z : Float). lnOf (sub64 (whole64 (l .normalize .result .e)) z) (ofBits binary64 (l .normalize .result .m + 1022 * 2 ^ 52))) places-low
+    ∙ sym (ln-low (u .before .args .b) _ _ _ _ (u .unpack .ensures) (l .normalize .ensures) (c .before .before .if1 .taken))
 
 returns-2 : tie.Need-returns-2
 returns-2 c =
     let l = c .before .before .before .before .before .before in
     let u = l .before in
     c .ln-of2 .ensures
-    ∙ ap (λ (z : Float). lnOf (sub64 (whole64 (l .lift .result .e)) z) (ofBits binary64 (l .lift .result .m + 1021 * 2 ^ 52))) places-high
-    ∙ sym (ln-high (u .before .args .b) _ _ _ _ (u .unpack .ensures) (l .lift .ensures) (c .before .before .if1 .left))
+    ∙ ap (λ (z : Float). lnOf (sub64 (whole64 (l .normalize .result .e)) z) (ofBits binary64 (l .normalize .result .m + 1021 * 2 ^ 52))) places-high
+    ∙ sym (ln-high (u .before .args .b) _ _ _ _ (u .unpack .ensures) (l .normalize .ensures) (c .before .before .if1 .left))
 
 pub ln-positive-spec : {M : Type 1} → statement M
 ln-positive-spec =
     tie.close
     (tie.spec
     unpack-requires
-    lift-requires
+    normalize-requires
     cast-e
     int-to-float-e
     add-ln-of

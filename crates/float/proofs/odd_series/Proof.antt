@@ -1,5 +1,5 @@
 -- `float::odd_series` meets its contract: each of its literals is the whole number that the definition names. Assumes nothing.
-use mathlib.Core.Path.{_≡_, refl}
+use mathlib.Core.Path.{refl}
 use lib.Ieee.{ofBits, ofInt}
 use Rattle.float.specs.Ln.{series}
 use Rattle.float.proofs.odd_series.Statement.{statement}

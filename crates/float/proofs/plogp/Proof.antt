@@ -1,5 +1,5 @@
 -- `float::plogp` meets its contract. Assumes nothing.
-use mathlib.Core.Path.{_≡_, refl, sym, ap, _∙_}
+use mathlib.Core.Path.{sym, ap, _∙_}
 use mathlib.Core.Bool.{Bool, cond}
 use lib.Ieee.{Float}
 use borrow.Author.Needs.{needs}

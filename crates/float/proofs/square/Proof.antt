@@ -1,12 +1,11 @@
-use mathlib.Core.Path.{_≡_, refl, ap, _∙_}
-use Prim.Native.Nat.{ℕ, _+_, _*_, _/_, _%_, _<_}
+-- `float::square` meets its contract, by two halves of 27 binary digits. Assumes nothing.
+use mathlib.Core.Path.{refl, ap, _∙_}
+use Prim.Native.Nat.{ℕ, _*_, _/_, _%_, _<_}
 use native.Mathlib.Omega.{arith}
-use Rattle.float.proofs.Near.{product, parts, halves}
+use Rattle.float.proofs.Correction.{product, parts, halves}
 use borrow.Author.Needs.{needs}
 use Rattle.float.proofs.square.Statement.{statement}
 use Rattle.float.proofs.square.Tie as tie
-use Rattle.float.proofs.square.Reads as reads
-use Rattle.float.proofs.square.Lts as lts
 
 upper : (r : ℕ) → r < 18014398509481984 → r / 134217728 < 134217728
 upper r h = omega arith

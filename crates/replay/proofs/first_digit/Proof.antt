@@ -1,16 +1,13 @@
 -- `replay::first_digit` meets its contract: the first digit after each byte passed is that after `at`. Assumes nothing.
-use mathlib.Core.Path.{_≡_, refl, sym, ap, _∙_}
-use Prim.Native.Nat.{ℕ, _+_, _-_}
+use mathlib.Core.Path.{_≡_, sym, _∙_}
+use Prim.Native.Nat.{_-_}
 use native.Mathlib.Omega.{arith}
-use lib.ListN.{length, drop, getD}
+use lib.ListN.{length}
 use borrow.Author.Needs.{needs}
 use Rattle.replay.specs.Numbers.{start}
 use Rattle.replay.proofs.Digits.{before-on, before-stop, before-end}
 use Rattle.replay.proofs.first_digit.Statement.{statement}
 use Rattle.replay.proofs.first_digit.Tie as tie
-use Rattle.replay.proofs.first_digit.Reads as reads
-use Rattle.replay.proofs.first_digit.Lts as lts
-use Rattle.replay.proofs.is_digit.Reads as is-digit-reads
 
 abbrev Inv-loop : tie.InvT-loop
 Inv-loop text at i₀ i = start text i ≡ start text at

@@ -1,11 +1,11 @@
 -- `replay::float_of_bits` meets its contract: a pattern above the infinity's is a NaN's. Assumes nothing.
-use mathlib.Core.Path.{_≡_, refl, sym, ap, _∙_, subst}
+use mathlib.Core.Path.{_≡_, refl, sym, _∙_, subst}
 use mathlib.Core.Bool.{Bool, true, not}
-use Prim.Native.Nat.{ℕ, _%_, _^_, _<_}
+use Prim.Native.Nat.{_%_, _^_}
 use lib.Dec.{T}
 use borrow.Author.Tests.{lt-ltb}
 use lib.Arith.{le→nltb}
-use lib.Ieee.{Float, nan, inf, fin, binary64, div, isNan, nanBits, ofBits}
+use lib.Ieee.{Float, nan, inf, fin, binary64, div, isNan, ofBits}
 use lib.Ieee.Bits.{nanBits-is, nanBits-above}
 use Rattle.replay.proofs.float_of_bits.Statement.{statement}
 use Rattle.replay.proofs.float_of_bits.Tie as tie

@@ -1,15 +1,11 @@
 -- `replay::number` meets its contract. Assumes nothing.
-use mathlib.Core.Path.{_≡_, ap, _∙_}
+use mathlib.Core.Path.{ap, _∙_}
 use Prim.Native.Nat.{ℕ, _+_}
 use lib.ListN.{drop}
 use Rattle.replay.specs.Numbers.{digits, value}
 use borrow.Author.Needs.{needs}
 use Rattle.replay.proofs.number.Statement.{statement}
 use Rattle.replay.proofs.number.Tie as tie
-use Rattle.replay.proofs.number.Reads as reads
-use Rattle.replay.proofs.number.Lts as lts
-use Rattle.replay.proofs.first_digit.Reads as first-digit-reads
-use Rattle.replay.proofs.number_at.Reads as number-at-reads
 
 first-digit-requires : tie.Need-first-digit-requires
 first-digit-requires c κs = search needs

@@ -1,18 +1,14 @@
 -- `replay::number_at` meets its contract: what n and the digits that are left make, and where they end, stays the same. Assumes nothing.
-use mathlib.Core.Path.{_≡_, refl, sym, ap, _∙_}
+use mathlib.Core.Path.{_≡_, sym, ap, _∙_}
 use Prim.Native.Nat.{ℕ, _+_, _-_}
 use native.Mathlib.Omega.{arith}
-use lib.ListN.{length, drop, getD}
+use lib.ListN.{length, drop}
 use borrow.Author.Needs.{needs}
 use borrow.Author.Tests.{not-true, not-false}
 use Rattle.replay.specs.Numbers.{digits, value}
 use Rattle.replay.proofs.Digits.{digits-on, digits-stop, digits-end, value-on, value-stop, value-end}
 use Rattle.replay.proofs.number_at.Statement.{statement}
 use Rattle.replay.proofs.number_at.Tie as tie
-use Rattle.replay.proofs.number_at.Reads as reads
-use Rattle.replay.proofs.number_at.Lts as lts
-use Rattle.replay.proofs.is_digit.Reads as is-digit-reads
-use Rattle.replay.proofs.with_digit.Reads as with-digit-reads
 
 abbrev Inv-loop : tie.InvT-loop
 Inv-loop text at n₀ i₀ n i = (value n (drop i text) ≡ value 0 (drop at text)) × (i + digits (drop i text) ≡ at + digits (drop at text))

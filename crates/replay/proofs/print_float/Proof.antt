@@ -3,9 +3,6 @@ use Rattle.float.proofs.Special.{no-nan}
 use borrow.Author.Needs.{needs}
 use Rattle.replay.proofs.print_float.Statement.{statement}
 use Rattle.replay.proofs.print_float.Tie as tie
-use Rattle.replay.proofs.print_float.Reads as reads
-use Rattle.replay.proofs.print_float.Lts as lts
-use Rattle.replay.proofs.print_number.Reads as print-number-reads
 
 print-number-requires : tie.Need-print-number-requires
 print-number-requires c κs = search needs

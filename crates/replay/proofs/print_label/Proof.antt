@@ -4,10 +4,6 @@ use Rattle.replay.proofs.Digits.{as-number}
 use borrow.Author.Needs.{needs}
 use Rattle.replay.proofs.print_label.Statement.{statement}
 use Rattle.replay.proofs.print_label.Tie as tie
-use Rattle.replay.proofs.print_label.Reads as reads
-use Rattle.replay.proofs.print_label.Lts as lts
-use Rattle.io.proofs.write_all.Reads as write-all-reads
-use Rattle.replay.proofs.print_number.Reads as print-number-reads
 
 slice-aggregate-write-all : tie.Need-slice-aggregate-write-all
 slice-aggregate-write-all c = search needs

@@ -4,8 +4,6 @@ use Rattle.replay.proofs.Digits.{digit-range, digit-fits, digit-over}
 use borrow.Author.Needs.{needs}
 use Rattle.replay.proofs.with_digit.Statement.{statement}
 use Rattle.replay.proofs.with_digit.Tie as tie
-use Rattle.replay.proofs.with_digit.Reads as reads
-use Rattle.replay.proofs.with_digit.Lts as lts
 
 sub-d : tie.Need-sub-d
 sub-d c = digit-range (c .args .b) (c .pre) .0

@@ -1,0 +1,18 @@
+use mathlib.Core.Path.{_≡_, refl, sym, _∙_}
+use Rattle.codelength.specs.Codelength.{codelengthOf}
+use borrow.Author.Needs.{needs}
+use Rattle.codelength.proofs.codelength_of.Statement.{statement}
+use Rattle.codelength.proofs.codelength_of.Tie as tie
+use Rattle.codelength.proofs.codelength_of.Reads as reads
+use Rattle.codelength.proofs.codelength_of.Lts as lts
+use Rattle.float.proofs.plogp.Reads as plogp-reads
+
+plogp-requires : tie.Need-plogp-requires
+plogp-requires c κs = search needs
+
+returns : tie.Need-returns
+unfolding codelengthOf
+returns c = rw (c .before .before .plogp .ensures)
+
+pub codelength-of-spec : {M : Type 1} → statement M
+codelength-of-spec = tie.close (tie.spec plogp-requires returns)

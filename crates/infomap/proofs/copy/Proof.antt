@@ -1,0 +1,69 @@
+use mathlib.Core.Path.{_≡_, refl, sym, _∙_, ap, subst}
+use mathlib.Core.Bool.{true, false}
+use native.Mathlib.Omega.{arith}
+use Prim.Native.Nat.{ℕ, _-_, _+_, _*_, _≤_, _<_}
+use lib.ListN.{length, getD, length-set}
+use Rattle.map_state.specs.Arrays.{netOf, stateOf, Firsts, Sized}
+use Rattle.optimize.specs.Rounds.{runOf, Run, optimizePartition}
+use Rattle.lists.specs.Lists.{upto}
+use Rattle.infomap.specs.Infomap.{keep, trials, bestOfThree, groupingOf}
+use Rattle.optimize.proofs.Passes.{sized-kept}
+use Rattle.infomap.proofs.Trials.{keep-yes, keep-no, trials-on, trials-end, copied, copy-on}
+use borrow.Author.Needs.{needs}
+use Rattle.infomap.proofs.copy.Statement.{statement}
+use Rattle.infomap.proofs.copy.Tie as tie
+use Rattle.infomap.proofs.copy.Reads as reads
+use Rattle.infomap.proofs.copy.Lts as lts
+
+abbrev Inv-loop : tie.InvT-loop
+Inv-loop to₀ from i₀ to i = ((k : ℕ) → k < i → getD to k 0 ≡ getD from k 0) × (length to ≡ length to₀)
+
+abbrev μ-loop : tie.MeasureT-loop
+μ-loop to₀ from i₀ to i = length from - i
+
+loop-holds : tie.Need-loop-holds Inv-loop μ-loop
+loop-holds c = ((λ k h. absurd (omega arith)), refl)
+
+mul-to : tie.Need-mul-to Inv-loop μ-loop
+mul-to c = search needs
+
+shared-slice-read-to : tie.Need-shared-slice-read-to Inv-loop μ-loop
+shared-slice-read-to c = search needs
+
+mul-to-2 : tie.Need-mul-to-2 Inv-loop μ-loop
+mul-to-2 c = search needs
+
+slice-write-to : tie.Need-slice-write-to Inv-loop μ-loop
+slice-write-to c = search needs
+
+add-i : tie.Need-add-i Inv-loop μ-loop
+add-i c = search needs
+
+loop-less : tie.Need-loop-less Inv-loop μ-loop
+loop-less c = search needs
+
+loop-again : tie.Need-loop-again Inv-loop μ-loop
+loop-again c = (copy-on (c .before .before .loop .to) (c .before .before .before .args .from .now) (c .before .before .loop .i) (omega (arith, c .before .before .loop .inv .1, c .before .before .before .pre, c .before .loop-test .taken)) (c .before .before .loop .inv .0), simp length-set (c .before .before .loop .inv .1))
+
+same-length : tie.Need-same-length Inv-loop μ-loop
+same-length c = c .before .loop .inv .1
+
+returns : tie.Need-returns Inv-loop μ-loop
+returns c = copied _ _ (c .before .loop .inv .1 ∙ c .before .before .pre) (λ k h. c .before .loop .inv .0 k (omega (arith, c .loop-test .left)))
+
+pub copy-spec : {M : Type 1} → statement M
+copy-spec =
+    tie.close
+    (tie.spec
+    Inv-loop
+    μ-loop
+    loop-holds
+    mul-to
+    shared-slice-read-to
+    mul-to-2
+    slice-write-to
+    add-i
+    loop-less
+    loop-again
+    same-length
+    returns)

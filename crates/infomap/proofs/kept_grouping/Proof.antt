@@ -1,0 +1,75 @@
+use mathlib.Core.Path.{_≡_, refl, sym, _∙_, ap}
+use mathlib.Core.List.{List}
+use Prim.Native.Nat.{ℕ}
+use native.Mathlib.Omega.{arith}
+use lib.ListN.{length}
+use Rattle.map_state.specs.Arrays.{netOf}
+use Rattle.infomap.specs.Infomap.{markOf, bestOfThree}
+use Rattle.infomap.proofs.Trials.{kept-links, kept-none}
+use borrow.Author.Needs.{needs}
+use Rattle.infomap.proofs.kept_grouping.Statement.{statement}
+use Rattle.infomap.proofs.kept_grouping.Tie as tie
+use Rattle.infomap.proofs.kept_grouping.Reads as reads
+use Rattle.infomap.proofs.kept_grouping.Lts as lts
+use Rattle.infomap.proofs.best_of_three.Reads as best-of-three-reads
+use Rattle.rng.proofs.fill.Reads as fill-reads
+use Rattle.rng.proofs.seeded.Reads as seeded-reads
+
+seeded-requires : tie.Need-seeded-requires
+seeded-requires c κs = search needs
+
+best-of-three-requires : tie.Need-best-of-three-requires
+best-of-three-requires c κs = search needs
+
+same-length : tie.Need-same-length
+same-length c = search needs
+
+same-length-2 : tie.Need-same-length-2
+same-length-2 c = search needs
+
+same-length-3 : tie.Need-same-length-3
+same-length-3 c = search needs
+
+same-length-4 : tie.Need-same-length-4
+same-length-4 c = search needs
+
+same-length-5 : tie.Need-same-length-5
+same-length-5 c = search needs
+
+same-length-6 : tie.Need-same-length-6
+same-length-6 c = search needs
+
+returns : tie.Need-returns
+returns c =
+    let a = c .before .before .before .before .before .before .before .before .before .before .before .before .before .before .before .before .before .before .before .before .before .before .before .before .before .before .before .before .before .args in
+    let n = netOf (a .table .now) (a .stride) (a .strength .now) (a .d) in
+    kept-links n (a .seed) (c .before .before .before .before .before .before .before .before .before .before .before .before .before .before .before .before .before .before .before .before .if1 .taken) (c .before .before .before .before .before .before .before .before .before .before .before .before .best-of-three .ensures ∙ ap (bestOfThree n) (c .before .before .before .before .before .before .before .before .before .before .before .before .before .before .before .before .before .before .before .seeded .ensures))
+
+fill-requires : tie.Need-fill-requires
+fill-requires c κs = search needs
+
+same-length-7 : tie.Need-same-length-7
+same-length-7 c = search needs
+
+returns-2 : tie.Need-returns-2
+unfolding markOf
+returns-2 c =
+    let a = c .before .before .before .before .before .before .before .before .before .before .before .before .before .args in
+    kept-none (netOf (a .table .now) (a .stride) (a .strength .now) (a .d)) (a .seed) _ (c .before .before .before .before .if1 .left) (c .before .before .before .before .before .before .before .before .before .before .before .before .before .pre .2 ∙ sym (c .before .before .before .before .before .before .before .before .before .before .before .before .before .pre .0 .nodes)) (c .before .before .fill .ensures)
+
+pub kept-grouping-spec : {M : Type 1} → statement M
+kept-grouping-spec =
+    tie.close
+    (tie.spec
+    seeded-requires
+    best-of-three-requires
+    same-length
+    same-length-2
+    same-length-3
+    same-length-4
+    same-length-5
+    same-length-6
+    returns
+    fill-requires
+    same-length-7
+    returns-2)

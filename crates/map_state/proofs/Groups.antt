@@ -1,0 +1,92 @@
+-- What a move makes of the groups: sums that stand at the lowest member behave as a table by group number. Assumes nothing.
+use mathlib.Core.Path.{_≡_, refl, sym, ap, _∙_}
+use mathlib.Core.Bool.{Bool, true, false, cond}
+use mathlib.Core.List.{List, [], _∷_}
+use mathlib.Core.Logic.{_≢_}
+use Prim.Native.Nat.{ℕ, zero, suc, _+_, _-_, _<_, _≤_}
+use native.Mathlib.Omega.{arith}
+use borrow.Author.Tests.{eqb-true}
+use lib.Dec.{eqb}
+use lib.ListN.{length, getD, set, length-set}
+use lib.Seq.{getD-set-same, getD-set-other}
+use lib.Ieee.{Float}
+use Rattle.float.specs.Binary64.{zero64}
+use Rattle.map_state.specs.Network.{Network}
+use Rattle.map_state.specs.MapState.{MapState, statsOf, statsAt, movedBy, applyMove, lowest}
+use Rattle.map_state.proofs.Leaders.{lowest-of, lowest-other}
+
+-- where a group's lowest member stands, the group is
+pub lowest-at : (g : ℕ) (part : List ℕ) → lowest g part < length part → getD part (lowest g part) 0 ≡ g
+unfolding lowest
+lowest-at g [] h = absurd (omega arith)
+lowest-at g (x ∷ xs) h = go (lowest-at g xs) (eqb x g) refl h where
+  go : (lowest g xs < length xs → getD xs (lowest g xs) 0 ≡ g) → (b : Bool) → eqb x g ≡ b → cond b 0 (suc (lowest g xs)) < suc (length xs) → getD (x ∷ xs) (cond b 0 (suc (lowest g xs))) 0 ≡ g
+  go i true e k = eqb-true x g e
+  go i false e k = i (omega arith)
+
+-- two groups with members have different lowest members
+pub apart : (g h : ℕ) (part : List ℕ) → g ≢ h → lowest g part < length part → lowest g part ≢ lowest h part
+apart g h part d p e = d (sym (lowest-at g part p) ∙ ap (λ (z : ℕ). getD part z 0) e ∙ lowest-at h part (rw e at p))
+
+module _ (part : List ℕ) (xs : List Float) (g h : ℕ) (d : g ≢ h) (long : length xs ≡ length part) where
+  abbrev both : Float → Float → List Float
+  both a b = set (set xs (lowest g part) a) (lowest h part) b
+
+  -- what was put last is read
+  pub put-last : (a b z : Float) → lowest h part < length part → getD (both a b) (lowest h part) z ≡ b
+  put-last a b z p = getD-set-same (set xs (lowest g part) a) (lowest h part) b z (rw (length-set xs (lowest g part) a, long) p)
+
+  -- and what was put before it, at a group that has a member
+  pub put-first : (a b z : Float) → lowest g part < length part → getD (both a b) (lowest g part) z ≡ a
+  put-first a b z p = getD-set-other (set xs (lowest g part) a) (lowest h part) (lowest g part) b z (apart g h part d p) ∙ getD-set-same xs (lowest g part) a z (rw long p)
+
+  -- the other groups keep theirs
+  pub put-other : (x : ℕ) (a b z : Float) → x ≢ g → x ≢ h → lowest x part < length part → getD (both a b) (lowest x part) z ≡ getD xs (lowest x part) z
+  put-other x a b z m n p = getD-set-other (set xs (lowest g part) a) (lowest h part) (lowest x part) b z (apart x h part n p) ∙ getD-set-other xs (lowest g part) (lowest x part) a z (apart x g part m p)
+
+module _ (n : Network) (s : MapState) (u h : ℕ) (hu : u < length (s .partition)) (d : getD (s .partition) u 0 ≢ h) (le : length (s .exits) ≡ length (s .partition)) (ls : length (s .strengths) ≡ length (s .partition)) where
+  abbrev old : ℕ
+  old = getD (s .partition) u 0
+
+  abbrev after : List ℕ
+  after = set (s .partition) u h
+
+  same : length (s .exits) ≡ length after
+  same = le ∙ sym (length-set (s .partition) u h)
+
+  same' : length (s .strengths) ≡ length after
+  same' = ls ∙ sym (length-set (s .partition) u h)
+
+  there : lowest h after < length after
+  there =
+      let e : getD after u 0 ≡ h = getD-set-same (s .partition) u h 0 hu in
+      let o = lowest-of after u (rw (length-set (s .partition) u h) hu) in
+      let p : lowest h after ≤ u = rw e at o in
+      omega (arith, length-set (s .partition) u h)
+
+  -- the group that u afterMove to
+  pub exit-to : statsOf (applyMove n s u h) h .exit ≡ movedBy n s u h .dest .exit
+  unfolding applyMove statsAt
+  exit-to = put-last after (s .exits) old h d same _ _ zero64 there
+
+  pub strength-to : statsOf (applyMove n s u h) h .strength ≡ movedBy n s u h .dest .strength
+  unfolding applyMove statsAt
+  strength-to = put-last after (s .strengths) old h d same' _ _ zero64 there
+
+  -- the group that u left, if it has a member still
+  pub exit-from : lowest old after < length after → statsOf (applyMove n s u h) old .exit ≡ movedBy n s u h .src .exit
+  unfolding applyMove statsAt
+  exit-from p = put-first after (s .exits) old h d same _ _ zero64 p
+
+  pub strength-from : lowest old after < length after → statsOf (applyMove n s u h) old .strength ≡ movedBy n s u h .src .strength
+  unfolding applyMove statsAt
+  strength-from p = put-first after (s .strengths) old h d same' _ _ zero64 p
+
+  -- every other group with a member
+  pub exit-other : (x : ℕ) → x ≢ old → x ≢ h → lowest x after < length after → statsOf (applyMove n s u h) x .exit ≡ statsOf s x .exit
+  unfolding applyMove statsAt
+  exit-other x a b p = put-other after (s .exits) old h d same x _ _ zero64 a b p ∙ ap (λ (z : ℕ). getD (s .exits) z zero64) (lowest-other x h (s .partition) u b a)
+
+  pub strength-other : (x : ℕ) → x ≢ old → x ≢ h → lowest x after < length after → statsOf (applyMove n s u h) x .strength ≡ statsOf s x .strength
+  unfolding applyMove statsAt
+  strength-other x a b p = put-other after (s .strengths) old h d same' x _ _ zero64 a b p ∙ ap (λ (z : ℕ). getD (s .strengths) z zero64) (lowest-other x h (s .partition) u b a)

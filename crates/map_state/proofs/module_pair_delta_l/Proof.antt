@@ -1,0 +1,42 @@
+use Rattle.map_state.specs.MapState.{modulePairDelta}
+use borrow.Author.Needs.{needs}
+use Rattle.map_state.proofs.module_pair_delta_l.Statement.{statement}
+use Rattle.map_state.proofs.module_pair_delta_l.Tie as tie
+use Rattle.map_state.proofs.module_pair_delta_l.Reads as reads
+use Rattle.map_state.proofs.module_pair_delta_l.Lts as lts
+use Rattle.float.proofs.plogp.Reads as plogp-reads
+use Rattle.map_state.proofs.module_terms.Reads as module-terms-reads
+
+plogp-requires : tie.Need-plogp-requires
+plogp-requires c κs = search needs
+
+module-terms-requires : tie.Need-module-terms-requires
+module-terms-requires c κs = search needs
+
+module-terms-requires-2 : tie.Need-module-terms-requires-2
+module-terms-requires-2 c κs = search needs
+
+plogp-requires-2 : tie.Need-plogp-requires-2
+plogp-requires-2 c κs = search needs
+
+module-terms-requires-3 : tie.Need-module-terms-requires-3
+module-terms-requires-3 c κs = search needs
+
+module-terms-requires-4 : tie.Need-module-terms-requires-4
+module-terms-requires-4 c κs = search needs
+
+returns : tie.Need-returns
+unfolding modulePairDelta
+returns c = rw (c .module-terms4 .ensures, c .before .module-terms3 .ensures, c .before .before .plogp2 .ensures, c .before .before .before .before .module-terms2 .ensures, c .before .before .before .before .before .module-terms .ensures, c .before .before .before .before .before .before .plogp .ensures)
+
+pub module-pair-delta-l-spec : {M : Type 1} → statement M
+module-pair-delta-l-spec =
+    tie.close
+    (tie.spec
+    plogp-requires
+    module-terms-requires
+    module-terms-requires-2
+    plogp-requires-2
+    module-terms-requires-3
+    module-terms-requires-4
+    returns)

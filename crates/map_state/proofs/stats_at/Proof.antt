@@ -1,0 +1,38 @@
+use mathlib.Core.Path.{_≡_, sym, ap, _∙_}
+use lib.Ieee.{nan}
+use native.Mathlib.Omega.{arith}
+use Rattle.float.specs.Binary64.{zero64}
+use Rattle.map_state.specs.MapState.{statsAt}
+use Rattle.map_state.proofs.Leaders.{getD-any}
+use borrow.Author.Needs.{needs}
+use Rattle.map_state.proofs.stats_at.Statement.{statement}
+use Rattle.map_state.proofs.stats_at.Tie as tie
+use Rattle.map_state.proofs.stats_at.Reads as reads
+use Rattle.map_state.proofs.stats_at.Lts as lts
+use Rattle.map_state.proofs.members.Reads as members-reads
+
+mul-t6 : tie.Need-mul-t6
+mul-t6 c = search needs
+
+shared-slice-read-t8 : tie.Need-shared-slice-read-t8
+shared-slice-read-t8 c = search needs
+
+mul-t9 : tie.Need-mul-t9
+mul-t9 c = search needs
+
+shared-slice-read-t11 : tie.Need-shared-slice-read-t11
+shared-slice-read-t11 c = search needs
+
+members-requires : tie.Need-members-requires
+members-requires c κs = search needs
+
+returns : tie.Need-returns
+unfolding statsAt
+returns c =
+    let a = c .before .before .before .before .before .before .args in
+    rw (c .members .ensures, sym (c .before .before .before .before .before .before .pre .4), getD-any (a .exits .now) (a .slot) nan zero64 (omega arith), getD-any (a .strengths .now) (a .slot) nan zero64 (omega arith))
+
+pub stats-at-spec : {M : Type 1} → statement M
+stats-at-spec =
+    tie.close
+    (tie.spec mul-t6 shared-slice-read-t8 mul-t9 shared-slice-read-t11 members-requires returns)

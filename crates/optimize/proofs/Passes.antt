@@ -1,0 +1,47 @@
+-- How a pass goes on, node by node. Assumes nothing.
+use mathlib.Core.Path.{_≡_, refl, sym, ap, _∙_}
+use mathlib.Core.Bool.{Bool, true, false}
+use mathlib.Core.List.{List, [], _∷_}
+use Prim.Native.Nat.{ℕ, zero, suc, _+_, _-_, _<_, _≤_, _*_}
+use native.Mathlib.Numerals.{add-one}
+use native.Mathlib.Omega.{arith}
+use lib.ListN.{length, getD, drop, drop-of-length-le}
+use lib.Seq.{drop-cons}
+use lib.Ieee.{Float}
+use Rattle.map_state.specs.Network.{Network}
+use Rattle.map_state.specs.MapState.{MapState, applyMove}
+use Rattle.map_state.specs.Arrays.{Sized}
+use Rattle.optimize.specs.Rounds.{Pass, act, pass}
+use Rattle.scan.specs.Scan.{Answer, noMove, move, answerOf}
+use Rattle.scan.specs.declared.Scan.{Scan}
+use Rattle.scan.specs.declared.Scan.the-variants.{Stay, Move}
+
+pub act-stay : (n : Network) (w : Pass) (u : ℕ) {a : Scan} → a ≡ Stay → w ≡ act n w u (answerOf a)
+unfolding act answerOf
+act-stay n w u e = rw e
+
+pub act-move : (n : Network) (w : Pass) (u h : ℕ) (d : Float) {a : Scan} {s : MapState} → a ≡ Move h d → s ≡ applyMove n (w .state) u h → _≡_ {A = Pass} (record { state = s; moved = true }) (act n w u (answerOf a))
+unfolding act answerOf
+act-move n w u h d e p = rw (e, p)
+
+pub pass-on : (f : Network → MapState → ℕ → Answer) (n : Network) (w : Pass) (order : List ℕ) (i : ℕ) {w' : Pass} {u : ℕ} {a : Answer} → i < length order → u ≡ getD order i 0 → a ≡ f n (w .state) u → w' ≡ act n w u a
+    → pass f n w' (drop (i + 1) order) ≡ pass f n w (drop i order)
+unfolding pass
+pass-on f n w order i h p q e = rw (e, q, p, add-one i, drop-cons order i 0 h)
+
+pub pass-end : (f : Network → MapState → ℕ → Answer) (n : Network) (w : Pass) (order : List ℕ) (i : ℕ) → length order ≤ i → w ≡ pass f n w (drop i order)
+unfolding pass
+pass-end f n w order i h = rw (drop-of-length-le order {i = i} h)
+
+-- slices that keep their lengths stay fit
+pub sized-kept : (t : List Float) (m : ℕ) (s : List Float) (part first : List ℕ) (exit str : List Float) (part' first' : List ℕ) (exit' str' : List Float) → Sized t m s part first exit str
+    → length part' ≡ length part → length first' ≡ length first → length exit' ≡ length exit → length str' ≡ length str → Sized t m s part' first' exit' str'
+sized-kept t m s part first exit str part' first' exit' str' z a b c d = record {
+  few = rw a (z .few);
+  wide = z .wide;
+  nodes = z .nodes ∙ sym a;
+  firsts = b ∙ z .firsts ∙ sym a;
+  exit = c ∙ z .exit ∙ sym a;
+  sums = d ∙ z .sums ∙ sym a;
+  rows = λ u h. rw a (z .rows u (rw a at h));
+}

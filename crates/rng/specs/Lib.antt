@@ -1,0 +1,2 @@
+pub mod Rng
+pub mod Facts

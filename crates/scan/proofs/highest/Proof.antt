@@ -1,0 +1,56 @@
+use mathlib.Core.Path.{_≡_, refl, sym, _∙_}
+use Prim.Native.Nat.{_-_}
+use lib.ListN.{length, drop}
+use Rattle.scan.specs.Scan.{highestFrom}
+use Rattle.scan.proofs.Rising.{highest-on, highest-end}
+use borrow.Author.Needs.{needs}
+use Rattle.scan.proofs.highest.Statement.{statement}
+use Rattle.scan.proofs.highest.Tie as tie
+use Rattle.scan.proofs.highest.Reads as reads
+use Rattle.scan.proofs.highest.Lts as lts
+use Rattle.scan.proofs.higher.Reads as higher-reads
+
+abbrev Inv-loop : tie.InvT-loop
+Inv-loop part m₀ v₀ m v = highestFrom m (drop v part) ≡ highestFrom 0 part
+
+abbrev μ-loop : tie.MeasureT-loop
+μ-loop part m₀ v₀ m v = length part - v
+
+loop-holds : tie.Need-loop-holds Inv-loop μ-loop
+loop-holds c = refl
+
+mul-higher : tie.Need-mul-higher Inv-loop μ-loop
+mul-higher c = search needs
+
+shared-slice-read-higher : tie.Need-shared-slice-read-higher Inv-loop μ-loop
+shared-slice-read-higher c = search needs
+
+higher-requires : tie.Need-higher-requires Inv-loop μ-loop
+higher-requires c κs = search needs
+
+add-v : tie.Need-add-v Inv-loop μ-loop
+add-v c = search needs
+
+loop-less : tie.Need-loop-less Inv-loop μ-loop
+loop-less c = search needs
+
+loop-again : tie.Need-loop-again Inv-loop μ-loop
+loop-again c = highest-on _ _ _ _ (c .before .before .loop-test .taken) (c .higher .ensures) ∙ c .before .before .before .loop .inv
+
+returns : tie.Need-returns Inv-loop μ-loop
+returns c = highest-end _ _ _ (c .loop-test .left) ∙ c .before .loop .inv
+
+pub highest-spec : {M : Type 1} → statement M
+highest-spec =
+    tie.close
+    (tie.spec
+    Inv-loop
+    μ-loop
+    loop-holds
+    mul-higher
+    shared-slice-read-higher
+    higher-requires
+    add-v
+    loop-less
+    loop-again
+    returns)

@@ -1,0 +1,139 @@
+use mathlib.Core.Path.{_≡_, refl, sym, _∙_, ap}
+use borrow.Author.Tests.{eq-eqb, ne-eqb}
+use native.Mathlib.Omega.{arith}
+use native.Mathlib.Nat.{add-sub-cancel-left}
+use Prim.Native.Nat.{ℕ, _-_, _+_, _*_, _^_, _≤_, _<_}
+use lib.ListN.{length, getD, take, drop}
+use lib.Ieee.{Float}
+use Rattle.map_state.specs.Arrays.{netOf, stateOf}
+use Rattle.map_state.specs.Network.{row}
+use Rattle.map_state.specs.MapState.{deltaMove}
+use Rattle.scan.specs.Scan.{Next, answerOf, scan}
+use Rattle.map_state.proofs.Leaders.{rowed, stats-some, stats-few}
+use Rattle.map_state.proofs.Rows.{lent}
+use Rattle.scan.proofs.Rising.{from, from-start, from-on, from-end}
+use borrow.Author.Needs.{needs}
+use Rattle.scan.proofs.scan_node.Statement.{statement}
+use Rattle.scan.proofs.scan_node.Tie as tie
+use Rattle.scan.proofs.scan_node.Reads as reads
+use Rattle.scan.proofs.scan_node.Lts as lts
+use Rattle.map_state.proofs.own_stats.Reads as own-stats-reads
+use Rattle.map_state.proofs.wide.Reads as wide-reads
+use Rattle.scan.proofs.consider.Reads as consider-reads
+use Rattle.scan.proofs.next_candidate.Reads as next-candidate-reads
+
+abbrev Inv-loop : tie.InvT-loop
+Inv-loop table m strength d part first exits strengths q u s e src a₀ floor₀ v₀ a floor v = Next part (take (e - s) (drop s table)) floor (length part) v × (from (netOf table m strength d) (stateOf part exits strengths q) u part (take (e - s) (drop s table)) (answerOf a) floor ≡ scan (netOf table m strength d) (stateOf part exits strengths q) u) × (floor ≤ 2 ^ 32)
+
+abbrev μ-loop : tie.MeasureT-loop
+μ-loop table m strength d part first exits strengths q u s e src a₀ floor₀ v₀ a floor v = 2 ^ 32 - floor
+
+mul-s : tie.Need-mul-s Inv-loop μ-loop
+mul-s c = omega (arith, c .before .before .before .before .before .before .pre .0 .rows (c .before .before .before .before .before .before .args .u) (c .before .before .before .before .before .before .pre .1))
+
+add-e : tie.Need-add-e Inv-loop μ-loop
+add-e c = omega (arith, c .before .before .before .before .before .before .pre .0 .rows (c .before .before .before .before .before .before .args .u) (c .before .before .before .before .before .before .pre .1))
+
+own-stats-requires : tie.Need-own-stats-requires Inv-loop μ-loop
+own-stats-requires c κs = search needs
+
+mul-next-candidate : tie.Need-mul-next-candidate Inv-loop μ-loop
+mul-next-candidate c = omega (arith, c .before .before .before .before .before .before .before .pre .0 .rows (c .before .before .before .before .before .before .before .args .u) (c .before .before .before .before .before .before .before .pre .1))
+
+sub-next-candidate : tie.Need-sub-next-candidate Inv-loop μ-loop
+sub-next-candidate c = search needs
+
+part-next-candidate-start : tie.Need-part-next-candidate-start Inv-loop μ-loop
+part-next-candidate-start c = search needs
+
+part-next-candidate-end : tie.Need-part-next-candidate-end Inv-loop μ-loop
+part-next-candidate-end c = omega (arith, c .before .before .before .before .before .before .before .pre .0 .rows (c .before .before .before .before .before .before .before .args .u) (c .before .before .before .before .before .before .before .pre .1))
+
+next-candidate-requires : tie.Need-next-candidate-requires Inv-loop μ-loop
+next-candidate-requires c κs = lent (c .before .before .before .before .before .before .before .before .args .table .now) _ _ (c .before .before .before .before .before .before .before .before .pre .0 .rows (c .before .before .before .before .before .before .before .before .args .u) (c .before .before .before .before .before .before .before .before .pre .1))
+
+loop-holds : tie.Need-loop-holds Inv-loop μ-loop
+unfolding row answerOf
+loop-holds c =
+    let a = c .before .before .before .before .before .before .before .before .before .args in (
+      c .next-candidate .ensures,
+      from-start (netOf (a .table .now) (a .stride) (a .strength .now) (a .d)) (stateOf (a .partition .now) (a .exits .now) (a .strengths .now) (a .q)) (a .u) (a .partition .now) _ (lent (a .table .now) _ _ (c .before .before .before .before .before .before .before .before .before .pre .0 .rows (c .before .before .before .before .before .before .before .before .before .args .u) (c .before .before .before .before .before .before .before .before .before .pre .1))) refl (rw (add-sub-cancel-left, c .before .before .before .before .before .before .before .before .before .pre .0 .nodes)),
+      omega arith,
+    )
+
+consider-requires : tie.Need-consider-requires Inv-loop μ-loop
+consider-requires c κs = (c .before .before .before .before .before .before .before .before .before .before .before .pre .0, c .before .before .before .before .before .before .before .before .before .before .before .pre .1, c .loop-test .taken, c .before .before .before .before .before .before .before .before .before .before .before .pre .2, c .before .before .before .before .own-stats .ensures)
+
+mul-wide : tie.Need-mul-wide Inv-loop μ-loop
+mul-wide c = search needs
+
+shared-slice-read-wide : tie.Need-shared-slice-read-wide Inv-loop μ-loop
+shared-slice-read-wide c = search needs
+
+wide-requires : tie.Need-wide-requires Inv-loop μ-loop
+wide-requires c κs = search needs
+
+add-floor : tie.Need-add-floor Inv-loop μ-loop
+add-floor c = omega (arith, c .wide .ensures, c .before .shared-slice-known7 .given (c .before .before .before .before .loop .v))
+
+mul-next-candidate-2 : tie.Need-mul-next-candidate-2 Inv-loop μ-loop
+mul-next-candidate-2 c = omega (arith, c .before .before .before .before .before .before .before .before .before .before .before .before .before .before .pre .0 .rows (c .before .before .before .before .before .before .before .before .before .before .before .before .before .before .args .u) (c .before .before .before .before .before .before .before .before .before .before .before .before .before .before .pre .1))
+
+sub-next-candidate-2 : tie.Need-sub-next-candidate-2 Inv-loop μ-loop
+sub-next-candidate-2 c = search needs
+
+part-next-candidate-start-2 : tie.Need-part-next-candidate-start-2 Inv-loop μ-loop
+part-next-candidate-start-2 c = search needs
+
+part-next-candidate-end-2 : tie.Need-part-next-candidate-end-2 Inv-loop μ-loop
+part-next-candidate-end-2 c = omega (arith, c .before .before .before .before .before .before .before .before .before .before .before .before .before .before .pre .0 .rows (c .before .before .before .before .before .before .before .before .before .before .before .before .before .before .args .u) (c .before .before .before .before .before .before .before .before .before .before .before .before .before .before .pre .1))
+
+next-candidate-requires-2 : tie.Need-next-candidate-requires-2 Inv-loop μ-loop
+next-candidate-requires-2 c κs = lent (c .before .before .before .before .before .before .before .before .before .before .before .before .before .before .before .args .table .now) _ _ (c .before .before .before .before .before .before .before .before .before .before .before .before .before .before .before .pre .0 .rows (c .before .before .before .before .before .before .before .before .before .before .before .before .before .before .before .args .u) (c .before .before .before .before .before .before .before .before .before .before .before .before .before .before .before .pre .1))
+
+loop-less : tie.Need-loop-less Inv-loop μ-loop
+loop-less c = omega (arith, c .before .before .wide .ensures, c .before .before .before .shared-slice-known7 .given (c .before .before .before .before .before .before .loop .v), c .before .before .before .before .before .before .loop .inv .0 .up (c .before .before .before .before .before .loop-test .taken))
+
+loop-again : tie.Need-loop-again Inv-loop μ-loop
+loop-again c =
+    let a = c .before .before .before .before .before .before .before .before .before .before .before .before .before .before .before .before .args in
+    let l = c .before .before .before .before .before .before .loop in (
+      c .next-candidate2 .ensures,
+      (rw (c .before .before .wide .ensures) (from-on (netOf (a .table .now) (a .stride) (a .strength .now) (a .d)) (stateOf (a .partition .now) (a .exits .now) (a .strengths .now) (a .q)) (a .u) (a .partition .now) _ (lent (a .table .now) _ _ (c .before .before .before .before .before .before .before .before .before .before .before .before .before .before .before .before .pre .0 .rows (c .before .before .before .before .before .before .before .before .before .before .before .before .before .before .before .before .args .u) (c .before .before .before .before .before .before .before .before .before .before .before .before .before .before .before .before .pre .1))) (answerOf (l .a)) _ (l .floor) (l .v) (l .inv .0) (c .before .before .before .before .before .loop-test .taken) (c .before .before .before .before .consider .ensures))) ∙ l .inv .1,
+      omega (arith, c .before .before .wide .ensures, c .before .before .before .shared-slice-known7 .given (l .v)),
+    )
+
+returns : tie.Need-returns Inv-loop μ-loop
+returns c =
+    let a = c .before .before .before .before .before .before .before .before .before .before .before .args in
+    let l = c .before .loop in
+    from-end (netOf (a .table .now) (a .stride) (a .strength .now) (a .d)) (stateOf (a .partition .now) (a .exits .now) (a .strengths .now) (a .q)) (a .u) (a .partition .now) _ (lent (a .table .now) _ _ (c .before .before .before .before .before .before .before .before .before .before .before .pre .0 .rows (c .before .before .before .before .before .before .before .before .before .before .before .args .u) (c .before .before .before .before .before .before .before .before .before .before .before .pre .1))) (answerOf (l .a)) (l .floor) (l .v) (l .inv .0) (c .loop-test .left) ∙ l .inv .1
+
+pub scan-node-spec : {M : Type 1} → statement M
+scan-node-spec =
+    tie.close
+    (tie.spec
+    Inv-loop
+    μ-loop
+    mul-s
+    add-e
+    own-stats-requires
+    mul-next-candidate
+    sub-next-candidate
+    part-next-candidate-start
+    part-next-candidate-end
+    next-candidate-requires
+    loop-holds
+    consider-requires
+    mul-wide
+    shared-slice-read-wide
+    wide-requires
+    add-floor
+    mul-next-candidate-2
+    sub-next-candidate-2
+    part-next-candidate-start-2
+    part-next-candidate-end-2
+    next-candidate-requires-2
+    loop-less
+    loop-again
+    returns)

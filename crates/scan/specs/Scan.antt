@@ -1,0 +1,88 @@
+-- The scan of a node over its neighbours' groups, and the isolation test. Definitions only.
+use mathlib.Core.Path.{_≡_}
+use Prim.Native.Nat.{ℕ, zero, suc, _+_, _<_, _≤_}
+use mathlib.Core.Bool.{Bool, true, false, cond}
+use mathlib.Core.List.{List, [], _∷_}
+use lib.Dec.{ltb, eqb}
+use lib.ListN.{length, getD}
+use lib.Ieee.{Float, binary64, nan, neg, lt, ofBits}
+use Rattle.float.specs.Binary64.{sub64, zero64}
+use Rattle.map_state.specs.Network.{Network, row}
+use Rattle.map_state.specs.MapState.{MapState, deltaMove}
+use Rattle.scan.specs.declared.Scan.{Scan}
+use Rattle.scan.specs.declared.Scan.the-variants.{Stay, Move}
+
+-- Document 01: a scan answers either no move, or the group and its change.
+pub data Answer : Type 0 where
+  noMove : Answer
+  move : ℕ → Float → Answer
+
+-- What each case of the code's enum answers.
+unfoldable pub answerOf : Scan → Answer
+answerOf Stay = noMove
+answerOf (Move g change) = move g change
+
+-- The margin, 1e-15.
+abbrev pub margin : Float
+margin = ofBits binary64 0x3CD2_03AF_9EE7_5616
+
+-- ---- the scan
+
+-- g put into a rising list without repeats.
+unfoldable pub place : ℕ → List ℕ → List ℕ
+place g [] = g ∷ []
+place g (h ∷ hs) = let r = h ∷ place g hs in cond (ltb g h) (g ∷ h ∷ hs) (cond (eqb g h) (h ∷ hs) r)
+
+-- The groups of a node's neighbours, in rising internal number.
+unfoldable pub candidates : List ℕ → List Float → List ℕ
+candidates [] ws = []
+candidates (p ∷ ps) [] = []
+candidates (p ∷ ps) (w ∷ ws) = let r = candidates ps ws in cond (lt zero64 w) (place p r) r
+
+-- The change to beat (`best_delta`).
+unfoldable pub bestDelta : Answer → Float
+bestDelta noMove = zero64
+bestDelta (move g change) = change
+
+-- Group h, whose change is below the change to beat by more than the margin, takes its place.
+unfoldable pub better : Answer → ℕ → Float → Answer
+better a h change = cond (lt change (sub64 (bestDelta a) margin)) (move h change) a
+
+-- One candidate more; a node's own group is none.
+unfoldable pub consider : Network → MapState → ℕ → Answer → ℕ → Answer
+consider net s u a h = let b = better a h (deltaMove net s u h) in cond (eqb h (getD (s .partition) u 0)) a b
+
+unfoldable pub scanFrom : Network → MapState → ℕ → Answer → List ℕ → Answer
+scanFrom net s u a [] = a
+scanFrom net s u a (h ∷ hs) = scanFrom net s u (consider net s u a h) hs
+
+-- The scan of node u.
+unfoldable pub scan : Network → MapState → ℕ → Answer
+scan net s u = scanFrom net s u noMove (candidates (s .partition) (row net u))
+
+-- ---- the isolation test
+
+-- The highest of m and the numbers in a list.
+unfoldable pub highestFrom : ℕ → List ℕ → ℕ
+highestFrom m [] = m
+highestFrom m (g ∷ gs) = highestFrom (cond (ltb m g) g m) gs
+
+-- `next_free_module`: one above the highest internal number in use.
+abbrev pub nextFreeModule : List ℕ → ℕ
+nextFreeModule part = highestFrom 0 part + 1
+
+-- Node u, alone already or not, moves to a new group if the change is below minus the margin.
+unfoldable pub isolate : Network → MapState → ℕ → Answer
+isolate net s u =
+    let h = nextFreeModule (s .partition) in
+    let change = deltaMove net s u h in
+    cond (lt change (neg margin)) (move h change) noMove
+
+-- ---- a pass over a row
+
+-- Of the neighbours below k whose group is at or above `floor`, r is one of the lowest group; past the end where there is none.
+pub record Next (part : List ℕ) (ws : List Float) (floor k r : ℕ) : Type 0 where
+  pub end : r ≤ length part
+  pub near : r < length part → lt zero64 (getD ws r nan) ≡ true
+  pub up : r < length part → floor ≤ getD part r 0
+  pub least : (v : ℕ) → v < k → lt zero64 (getD ws v nan) ≡ true → floor ≤ getD part v 0 → (r < length part) × (getD part r 0 ≤ getD part v 0)

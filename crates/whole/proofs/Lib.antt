@@ -1,0 +1,5 @@
+pub mod WholeSums
+pub mod WholeMoves
+pub mod Afresh
+pub mod Carried
+pub mod Renumbered
