@@ -1,12 +1,11 @@
 -- The distance of two points within the limit is finite and at most three times the limit: it is at most that of two opposite corners
 -- of the square of such points, and that one is worked out. Assumes nothing.
-use mathlib.Core.Path.{_≡_, refl, sym, ap, _∙_}
-use Prim.Native.Nat.{ℕ, _*_, _≤_}
+use mathlib.Core.Path.{_≡_}
+use Prim.Native.Nat.{ℕ, _*_}
 use native.Mathlib.Nat.{le-trans, le-of-eq, mul-one, mul-right-comm, mul-le-mul-right, le-of-mul-le-mul-right}
-use native.Mathlib.Omega.{arith}
 use mathlib.Core.Bool.{Bool, true, false, _&&_, false≢true}
 use lib.Dec.{T, leb, leb→le, le→leb}
-use lib.Ieee.{Float, nan, inf, fin, binary64, up, down, add, sub, mul, ofInt, round}
+use lib.Ieee.{Float, nan, inf, fin, binary64, up, down, add, mul, ofInt}
 use lib.Ieee.Bits.{is-true}
 use lib.Ieee.Fits.{down-pos}
 use lib.Ieee.Scale.{finite}

@@ -1,4 +1,5 @@
--- Lemmas that belong to no one function.
+-- Lemmas that belong to no one function. The laws that other crates cite: a list in order stays in order (Ordered); the groups are the trace,
+-- cut, and no more than its fixes (Groups); the stay numbers line up with them (Lies).
 pub mod AtMost
 pub mod Ordered
 pub mod Shift

@@ -6,7 +6,6 @@ use Prim.Native.Nat.{ℕ}
 use lib.IntN.{ℤ, pos, negsuc}
 use lib.Ieee.{Float, binary64, ofInt, ofBits}
 use Rattle.float.specs.Binary64.{whole64}
-use Rattle.distance.specs.declared.Point.{Point}
 use Rattle.distance.specs.Distance.{euclidean}
 use Rattle.stay.specs.declared.StaySettings.{StaySettings}
 use Rattle.stay.specs.Ordered.{ordered, median}
