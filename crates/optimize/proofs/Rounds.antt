@@ -1,13 +1,11 @@
 -- A round from its parts, and the rounds one after the other. Assumes nothing.
-use mathlib.Core.Path.{_≡_, refl, sym, ap, _∙_}
+use mathlib.Core.Path.{_≡_, refl, ap, _∙_}
 use mathlib.Core.Bool.{Bool, true, false}
-use mathlib.Core.List.{List, [], _∷_}
-use Prim.Native.Nat.{ℕ, zero, suc, _+_, _-_, _*_, _<_, _≤_}
+use mathlib.Core.List.{List}
+use Prim.Native.Nat.{ℕ, zero, suc, _+_, _-_, _<_, _≤_}
 use native.Mathlib.Omega.{arith}
 use lib.ListN.{length}
-use lib.Ieee.{Float}
 use Rattle.map_state.specs.Network.{Network}
-use Rattle.map_state.specs.MapState.{MapState}
 use Rattle.scan.specs.Scan.{scan, isolate}
 use Rattle.rng.specs.Rng.{shuffle}
 use Rattle.lists.specs.Lists.{upto}
