@@ -1,0 +1,39 @@
+-- `tracks::config::check_config` meets its contract. Assumes nothing.
+use Rattle.tracks.specs.Checks.{refuseIf, firstOf, inTurn}
+use Rattle.tracks.specs.Settings.{checkConfig}
+use Rattle.tracks.proofs.Turns.{says, first-alone}
+use borrow.Author.Needs.{needs}
+use Rattle.tracks.proofs.config.check_config.Statement.{statement}
+use Rattle.tracks.proofs.config.check_config.Tie as tie
+
+unusable-requires : tie.Need-unusable-requires
+unusable-requires c κs = search needs
+
+returns : tie.Need-returns
+unfolding checkConfig inTurn firstOf refuseIf
+returns c = rw (says (c .before .unusable .ensures) (c .if1 .taken))
+
+unusable-requires-2 : tie.Need-unusable-requires-2
+unusable-requires-2 c κs = search needs
+
+returns-2 : tie.Need-returns-2
+unfolding checkConfig inTurn firstOf refuseIf
+returns-2 c = rw (says (c .before .before .before .unusable .ensures) (c .before .before .if1 .left), says (c .before .unusable2 .ensures) (c .if2 .taken))
+
+check-time-bounds-requires : tie.Need-check-time-bounds-requires
+check-time-bounds-requires c κs = search needs
+
+returns-3 : tie.Need-returns-3
+unfolding checkConfig inTurn firstOf refuseIf
+returns-3 c = rw (says (c .before .before .before .before .unusable .ensures) (c .before .before .before .if1 .left), says (c .before .before .unusable2 .ensures) (c .before .if2 .left), first-alone) (c .check-time-bounds .ensures)
+
+pub check-config-spec : {M : Type 1} → statement M
+check-config-spec =
+    tie.close
+    (tie.spec
+    unusable-requires
+    returns
+    unusable-requires-2
+    returns-2
+    check-time-bounds-requires
+    returns-3)

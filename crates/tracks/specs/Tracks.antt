@@ -1,0 +1,66 @@
+-- The checks of tracks: document 01's refusals 7 to 17, in the order that it gives. Tracks are columns of coordinates, times and time marks,
+-- and the lengths of the traces. Definitions only.
+use Prim.Native.Nat.{ℕ, _+_, _*_}
+use mathlib.Core.Bool.{Bool, not, _&&_, _||_}
+use mathlib.Core.List.{List, [], _∷_}
+use lib.Dec.{eqb, ltb}
+use lib.ListN.{length, take, drop}
+use lib.Ieee.{Float}
+use Rattle.stay.specs.Trace.{Fix, fixes}
+use Rattle.tracks.specs.declared.refusal.Refusal.the-variants.{NoTrace, Lengths, Counts, Work, TimeMark}
+use Rattle.tracks.specs.declared.refusal.Checked.{Checked}
+use Rattle.tracks.specs.Checks.{refuseIf, inTurn, eachOf, eachFrom}
+use Rattle.tracks.specs.Traces.{checkTrace, checkSize}
+
+-- The sum of the trace lengths.
+unfoldable pub total : List ℕ → ℕ
+total [] = 0
+total (n ∷ ns) = n + total ns
+
+-- The traces: the fixes cut by their lengths.
+unfoldable pub traces : List ℕ → List Fix → List (List Fix)
+traces [] fs = []
+traces (n ∷ ns) fs = take n fs ∷ traces ns (drop n fs)
+
+-- The lengths of the fix slices and of the label slice.
+unfoldable pub sameLengths : ℕ → ℕ → ℕ → ℕ → ℕ → Bool
+sameLengths n ys ts ms labels = eqb ys n && eqb ts n && eqb ms n && eqb labels n
+
+-- 7, 8.
+unfoldable pub checkLengths : List ℕ → ℕ → ℕ → ℕ → ℕ → ℕ → Checked
+checkLengths lens n ys ts ms labels =
+    inTurn
+    (refuseIf (eqb (length lens) 0) NoTrace
+    ∷ refuseIf (not (sameLengths n ys ts ms labels && eqb (total lens) n)) Lengths
+    ∷ [])
+
+-- 9.
+unfoldable pub checkCounts : ℕ → ℕ → ℕ → Checked
+checkCounts traces fixes places = refuseIf (ltb 256 traces || ltb 65536 fixes || eqb places 0 || ltb 512 places) Counts
+
+-- 10: 4 × fixes + places² f64 and 4 × fixes + 8 × places 32-bit numbers.
+unfoldable pub checkWork : ℕ → ℕ → ℕ → ℕ → Checked
+checkWork fixes places floats words = refuseIf (ltb floats (4 * fixes + places * places) || ltb words (4 * fixes + 8 * places)) Work
+
+-- 17, of one mark.
+unfoldable pub checkMark : ℕ → Checked
+checkMark m = refuseIf (ltb 1 m) TimeMark
+
+-- 17 at all marks, then 11 to 15 trace by trace, then 16 trace by trace.
+unfoldable pub checkContents : List Float → List Float → List Float → List ℕ → List ℕ → Checked
+checkContents xs ys ts ms lens =
+    inTurn
+    (eachOf checkMark ms
+    ∷ eachFrom checkTrace 0 (traces lens (fixes xs ys ts ms))
+    ∷ eachFrom checkSize 0 (traces lens (fixes xs ys ts ms))
+    ∷ [])
+
+-- All in order. `labels` is the length of the label slice, `floats` and `words` those of the work slices.
+unfoldable pub checkTracks : List Float → List Float → List Float → List ℕ → List ℕ → ℕ → ℕ → ℕ → ℕ → Checked
+checkTracks xs ys ts ms lens labels places floats words =
+    inTurn
+    (checkLengths lens (length xs) (length ys) (length ts) (length ms) labels
+    ∷ checkCounts (length lens) (length xs) places
+    ∷ checkWork (length xs) places floats words
+    ∷ checkContents xs ys ts ms lens
+    ∷ [])

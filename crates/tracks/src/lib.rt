@@ -1,0 +1,107 @@
+// The checks of settings and tracks that come before a fit, and the refusals (document 01, "When no labels are given"). Those of tracks go in
+// its order: 7, 8, 9, 10, 17; then trace by trace 11 to 15; after all traces 16.
+pub mod config;
+pub mod refusal;
+mod slices;
+mod trace;
+
+use crate::refusal::Checked;
+ghost use mathlib.Core.Path.{_≡_};
+ghost use mathlib.Core.List.{List};
+ghost use Prim.Native.Nat.{ℕ};
+ghost use lib.ListN.{length};
+ghost use lib.Ieee.{Float};
+ghost use Rattle.stay.specs.Trace.{fixes};
+ghost use Rattle.tracks.specs.Checks.{eachFrom};
+ghost use Rattle.tracks.specs.Traces.{checkTrace, checkSize};
+ghost use Rattle.tracks.specs.Tracks.{total, traces, checkContents, checkTracks};
+
+// 11 to 15, trace by trace.
+fn check_traces(xs: &[f64], ys: &[f64], times: &[f64], marks: &[u8], lens: &[u32]) -> Checked
+    requires { ⌜ (length (now ys) ≡ length (now xs)) × (length (now times) ≡ length (now xs)) × (length (now marks) ≡ length (now xs)) × (total (now lens) ≡ length (now xs)) ⌝ }
+    ensures { λ r. ⌜ r ≡ eachFrom checkTrace 0 (traces (now (lens .entry)) (fixes (now (xs .entry)) (now (ys .entry)) (now (times .entry)) (now (marks .entry)))) ⌝ }
+{
+    let mut k = 0;
+    let mut at = 0;
+    while k < lens.len() {
+        let end = at + lens[k] as usize;
+        let r = crate::trace::check_trace(
+            k,
+            &xs[at..end],
+            &ys[at..end],
+            &times[at..end],
+            &marks[at..end],
+        );
+        if crate::refusal::is_refused(r) {
+            return r;
+        }
+        at = end;
+        k += 1;
+    }
+    Checked::Accepted
+}
+
+// 16, with the first trace that has it.
+fn check_sizes(xs: &[f64], ys: &[f64], lens: &[u32]) -> Checked
+    requires { ⌜ (length (now ys) ≡ length (now xs)) × (total (now lens) ≡ length (now xs)) ⌝ }
+    ensures { λ r. ⌜ ((ts : List Float) (ms : List ℕ) → length ts ≡ length (now (xs .entry)) → length ms ≡ length (now (xs .entry)) → r ≡ eachFrom checkSize 0 (traces (now (lens .entry)) (fixes (now (xs .entry)) (now (ys .entry)) ts ms))) ⌝ }
+{
+    let mut k = 0;
+    let mut at = 0;
+    while k < lens.len() {
+        let end = at + lens[k] as usize;
+        let r = crate::trace::check_size(k, &xs[at..end], &ys[at..end]);
+        if crate::refusal::is_refused(r) {
+            return r;
+        }
+        at = end;
+        k += 1;
+    }
+    Checked::Accepted
+}
+
+// 17, then 11 to 16: what the slices hold.
+fn check_contents(xs: &[f64], ys: &[f64], times: &[f64], marks: &[u8], lens: &[u32]) -> Checked
+    requires { ⌜ (length (now ys) ≡ length (now xs)) × (length (now times) ≡ length (now xs)) × (length (now marks) ≡ length (now xs)) × (total (now lens) ≡ length (now xs)) ⌝ }
+    ensures { λ r. ⌜ r ≡ checkContents (now (xs .entry)) (now (ys .entry)) (now (times .entry)) (now (marks .entry)) (now (lens .entry)) ⌝ }
+{
+    let a = crate::slices::check_marks(marks);
+    if crate::refusal::is_refused(a) {
+        return a;
+    }
+    let b = check_traces(xs, ys, times, marks, lens);
+    if crate::refusal::is_refused(b) {
+        return b;
+    }
+    check_sizes(xs, ys, lens)
+}
+
+// All checks of tracks. `labels` is the length of the label slice, `floats` and `words` those of the work slices.
+pub fn check_tracks(
+    xs: &[f64],
+    ys: &[f64],
+    times: &[f64],
+    marks: &[u8],
+    lens: &[u32],
+    labels: usize,
+    places: usize,
+    floats: usize,
+    words: usize,
+) -> Checked
+    ensures { λ r. ⌜ r ≡ checkTracks (now (xs .entry)) (now (ys .entry)) (now (times .entry)) (now (marks .entry)) (now (lens .entry)) labels places floats words ⌝ }
+{
+    let n = xs.len();
+    let a = crate::slices::check_lengths(lens, n, ys.len(), times.len(), marks.len(), labels);
+    if crate::refusal::is_refused(a) {
+        return a;
+    }
+    let b = crate::slices::check_counts(lens.len(), n, places);
+    if crate::refusal::is_refused(b) {
+        return b;
+    }
+    let c = crate::slices::check_work(n, places, floats, words);
+    if crate::refusal::is_refused(c) {
+        return c;
+    }
+    check_contents(xs, ys, times, marks, lens)
+}

@@ -1,0 +1,155 @@
+// The checks of one trace, of number k: 11 to 16.
+use crate::refusal::Checked;
+use crate::refusal::Refusal;
+use distance::Point;
+ghost use mathlib.Core.Path.{_≡_};
+ghost use mathlib.Core.Bool.{not, _&&_};
+ghost use mathlib.Core.List.{List};
+ghost use Prim.Native.Nat.{ℕ};
+ghost use lib.ListN.{length};
+ghost use lib.Ieee.{Float};
+ghost use Rattle.stay.specs.Trace.{timeOf, fixes};
+ghost use Rattle.stay.specs.Steps.{allMarked};
+ghost use Rattle.tracks.specs.Checks.{eachOf};
+ghost use Rattle.tracks.specs.Traces.{above, noneMarked, columnsInOrder, checkFix, checkTimes, checkTrace, checkSize};
+
+// 12 and 13 of one fix. The value of a time whose mark is not 1 is not looked at.
+fn check_fix(k: usize, p: Point, mark: u8, time: f64) -> Checked
+    ensures { λ r. ⌜ r ≡ checkFix k record { at = p; time = timeOf mark time } ⌝ }
+{
+    if !float::is_finite(p.x) {
+        return Checked::Refused(Refusal::Coordinate(k));
+    }
+    if !float::is_finite(p.y) {
+        return Checked::Refused(Refusal::Coordinate(k));
+    }
+    if mark == 1 {
+        if !float::is_finite(time) {
+            return Checked::Refused(Refusal::Timestamp(k));
+        }
+    }
+    Checked::Accepted
+}
+
+// 12 and 13, fix by fix.
+fn check_fixes(k: usize, xs: &[f64], ys: &[f64], times: &[f64], marks: &[u8]) -> Checked
+    requires { ⌜ (length (now ys) ≡ length (now xs)) × (length (now times) ≡ length (now xs)) × (length (now marks) ≡ length (now xs)) ⌝ }
+    ensures { λ r. ⌜ r ≡ eachOf (checkFix k) (fixes (now (xs .entry)) (now (ys .entry)) (now (times .entry)) (now (marks .entry))) ⌝ }
+{
+    let mut i = 0;
+    while i < xs.len() {
+        let r = check_fix(k, Point { x: xs[i], y: ys[i] }, marks[i], times[i]);
+        if crate::refusal::is_refused(r) {
+            return r;
+        }
+        i += 1;
+    }
+    Checked::Accepted
+}
+
+fn all_marked(marks: &[u8]) -> bool
+    ensures { λ r. ⌜ r ≡ allMarked (now (marks .entry)) ⌝ }
+{
+    let mut i = 0;
+    while i < marks.len() {
+        if marks[i] != 1 {
+            return false;
+        }
+        i += 1;
+    }
+    true
+}
+
+fn none_marked(marks: &[u8]) -> bool
+    ensures { λ r. ⌜ r ≡ noneMarked (now (marks .entry)) ⌝ }
+{
+    let mut i = 0;
+    while i < marks.len() {
+        if marks[i] == 1 {
+            return false;
+        }
+        i += 1;
+    }
+    true
+}
+
+// Whether some marks are 1, and some not.
+fn partly_marked(marks: &[u8]) -> bool
+    ensures { λ r. ⌜ r ≡ not (allMarked (now (marks .entry))) && not (noneMarked (now (marks .entry))) ⌝ }
+{
+    if all_marked(marks) {
+        return false;
+    }
+    !none_marked(marks)
+}
+
+// Whether two times are there and the first is above the second.
+fn above(mark: u8, time: f64, mark2: u8, time2: f64) -> bool
+    ensures { λ r. ⌜ r ≡ above (timeOf mark time) (timeOf mark2 time2) ⌝ }
+{
+    if mark == 1 {
+        if mark2 == 1 {
+            return time2 < time;
+        }
+    }
+    false
+}
+
+fn in_time_order(times: &[f64], marks: &[u8]) -> bool
+    requires { ⌜ length (now marks) ≡ length (now times) ⌝ }
+    ensures { λ r. ⌜ r ≡ columnsInOrder (now (times .entry)) (now (marks .entry)) ⌝ }
+{
+    let mut i = 1;
+    while i < times.len() {
+        let before = i - 1;
+        if above(marks[before], times[before], marks[i], times[i]) {
+            return false;
+        }
+        i += 1;
+    }
+    true
+}
+
+// 14 and 15.
+fn check_times(k: usize, times: &[f64], marks: &[u8]) -> Checked
+    requires { ⌜ length (now marks) ≡ length (now times) ⌝ }
+    ensures { λ r. ⌜ ((xs ys : List Float) → length xs ≡ length (now (times .entry)) → length ys ≡ length (now (times .entry)) → r ≡ checkTimes k (fixes xs ys (now (times .entry)) (now (marks .entry)))) ⌝ }
+{
+    if partly_marked(marks) {
+        return Checked::Refused(Refusal::PartlyTimed(k));
+    }
+    if !in_time_order(times, marks) {
+        return Checked::Refused(Refusal::TimeOrder(k));
+    }
+    Checked::Accepted
+}
+
+// 11 to 15.
+pub fn check_trace(k: usize, xs: &[f64], ys: &[f64], times: &[f64], marks: &[u8]) -> Checked
+    requires { ⌜ (length (now ys) ≡ length (now xs)) × (length (now times) ≡ length (now xs)) × (length (now marks) ≡ length (now xs)) ⌝ }
+    ensures { λ r. ⌜ r ≡ checkTrace k (fixes (now (xs .entry)) (now (ys .entry)) (now (times .entry)) (now (marks .entry))) ⌝ }
+{
+    if xs.len() == 0 {
+        return Checked::Refused(Refusal::EmptyTrace(k));
+    }
+    let r = check_fixes(k, xs, ys, times, marks);
+    if crate::refusal::is_refused(r) {
+        return r;
+    }
+    check_times(k, times, marks)
+}
+
+// 16.
+pub fn check_size(k: usize, xs: &[f64], ys: &[f64]) -> Checked
+    requires { ⌜ length (now ys) ≡ length (now xs) ⌝ }
+    ensures { λ r. ⌜ ((ts : List Float) (ms : List ℕ) → length ts ≡ length (now (xs .entry)) → length ms ≡ length (now (xs .entry)) → r ≡ checkSize k (fixes (now (xs .entry)) (now (ys .entry)) ts ms)) ⌝ }
+{
+    let mut i = 0;
+    while i < xs.len() {
+        if !distance::in_limit(Point { x: xs[i], y: ys[i] }) {
+            return Checked::Refused(Refusal::CoordinateSize(k));
+        }
+        i += 1;
+    }
+    Checked::Accepted
+}
