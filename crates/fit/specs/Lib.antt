@@ -1,0 +1,2 @@
+pub mod FixLabels
+pub mod Demand
