@@ -158,15 +158,6 @@ unfolding trialAt
 trial-is net x zero = (x, refl)
 trial-is net x (suc t) = trial-is net (optimizePartition net x .rng) t
 
--- Only one trial is the kept one.
-pub kept-once : (net : Network) (x t s : ℕ) → IsKept net x t → IsKept net x s → t ≡ s
-kept-once net x t s p q = pick (decLt t s) (decLt s t)
-  where
-    pick : Dec (t < s) → Dec (s < t) → t ≡ s
-    pick (yes a) b = absurd (q .first t a (p .lowest))
-    pick (no a) (yes b) = absurd (p .first s b (q .lowest))
-    pick (no a) (no b) = omega arith
-
 -- What there is before the first trial.
 abbrev pub byItself : Network → Grouping
 byItself net = record { partition = upto (length (net .strength)); mark = noneKept; rounds = 0; codelength = infinity64 }
@@ -190,6 +181,15 @@ best-is net x = pick (trials-result net 3 x (byItself net))
     pick : Result net x 3 (byItself net) (trials net 3 x (byItself net)) → Best net x (trials net 3 x (byItself net))
     pick (inl r) = none (r .1) (r .0)
     pick (inr r) = kept (r .t) (record { one = r .one; lowest = lowest-of (r .t) (r .lowest); first = λ s h l. r .first s h (of-lowest s l) }) (r .is)
+
+-- Only one trial is the kept one.
+pub kept-once : (net : Network) (x t s : ℕ) → IsKept net x t → IsKept net x s → t ≡ s
+kept-once net x t s p q = pick (decLt t s) (decLt s t)
+  where
+    pick : Dec (t < s) → Dec (s < t) → t ≡ s
+    pick (yes a) b = absurd (q .first t a (p .lowest))
+    pick (no a) (yes b) = absurd (p .first s b (q .lowest))
+    pick (no a) (no b) = omega arith
 
 -- The best of three is the grouping of any trial that is the kept one.
 pub best-kept : (net : Network) (x t : ℕ) → IsKept net x t → bestOfThree net x ≡ groupingAt net x t

@@ -29,7 +29,7 @@ insert-length e l =
     let q : length (take (position e l) l ++ drop (position e l) l) ≡ length l = ap length (take-append-drop (position e l) l) in
     simp length-append (omega (arith, simp length-append at q))
 
-insert-cons : (e x : Float) (xs : List Float) → insertOrdered e (x ∷ xs) ≡ cond (atMost x e) (x ∷ insertOrdered e xs) (e ∷ x ∷ xs)
+pub insert-cons : (e x : Float) (xs : List Float) → insertOrdered e (x ∷ xs) ≡ cond (atMost x e) (x ∷ insertOrdered e xs) (e ∷ x ∷ xs)
 unfolding insertOrdered position
 insert-cons e x xs = go (atMost x e)
   where

@@ -13,7 +13,7 @@ use Rattle.stay.specs.Trace.{Fix}
 use Rattle.stay.specs.Stays.{eventMap, stayMedians}
 
 -- the median of 1, 2, 3, 10 is 2.5
-median-2-5 : median (whole64 1 ∷ whole64 2 ∷ whole64 3 ∷ whole64 10 ∷ []) ≡ ofBits binary64 0x4004_0000_0000_0000
+pub median-2-5 : median (whole64 1 ∷ whole64 2 ∷ whole64 3 ∷ whole64 10 ∷ []) ≡ ofBits binary64 0x4004_0000_0000_0000
 unfolding median ofInt ofBits
 median-2-5 = refl
 

@@ -10,7 +10,7 @@ use Rattle.optimize.specs.Rounds.{passOf, runOf}
 use Rattle.rng.proofs.Visits.{drawn-below}
 use Rattle.optimize.proofs.Passes.{sized-kept}
 use Rattle.optimize.proofs.Numbers.{at-most-more}
-use Rattle.optimize.proofs.Rounds.{round-is, swept-at-most}
+use Rattle.optimize.proofs.Rounds.{round-is, moved-at-most}
 use borrow.Author.Needs.{needs}
 use Rattle.optimize.proofs.round.Statement.{statement}
 use Rattle.optimize.proofs.round.Tie as tie
@@ -41,7 +41,7 @@ isolation-pass-requires c κs =
       c13 .move-pass .ensures .1,
       subst (λ (k : ℕ). Below k (c21 .draw-order .last .0)) (c30 .pre .2 ∙ sym e) (drawn-below (a .t .rng) (length (a .order .now)) (c21 .draw-order .last .0) (c21 .draw-order .result) (c21 .draw-order .ensures)),
       omega (arith, c21 .draw-order .kept .0, c30 .pre .2, c30 .pre .0 .few),
-      at-most-more 800000 900000 _ (omega arith) (swept-at-most 800000 (netOf (a .table .now) (a .stride) (a .strength .now) (a .d)) (passOf (a .partition .now) (a .exits .now) (a .strengths .now) (record { q = a .t .q; moved = false })) _ (c13 .move-pass .ensures .0) (c30 .pre .3)),
+      at-most-more 800000 900000 _ (omega arith) (moved-at-most 800000 (netOf (a .table .now) (a .stride) (a .strength .now) (a .d)) (passOf (a .partition .now) (a .exits .now) (a .strengths .now) (record { q = a .t .q; moved = false })) _ (c13 .move-pass .ensures .0) (c30 .pre .3)),
     )
 
 add-t37 : tie.Need-add-t37

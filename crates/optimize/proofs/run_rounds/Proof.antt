@@ -9,7 +9,7 @@ use Rattle.map_state.specs.Arrays.{netOf, Firsts, Sized}
 use Rattle.optimize.specs.Rounds.{runOf, runRounds, AtMost}
 use Rattle.optimize.proofs.Passes.{sized-kept}
 use Rattle.optimize.proofs.Numbers.{at-most-more}
-use Rattle.optimize.proofs.Rounds.{loop-on, loop-rest, loop-end, run-at-most, run-counts}
+use Rattle.optimize.proofs.Rounds.{rounds-on, rounds-rest, rounds-end, run-at-most, run-counts}
 use Rattle.optimize.proofs.run_rounds.Statement.{statement}
 use Rattle.optimize.proofs.run_rounds.Tie as tie
 
@@ -45,7 +45,7 @@ returns c =
     let c10 = c10 in
     let a = c10 .args in
     let l = c .before .before .loop in
-    (loop-rest (netOf (a .table .now) (a .stride) (a .strength .now) (a .d)) (l .left) (l .more) (runOf (l .partition) (l .exits) (l .strengths) (l .t)) (c .before .loop-test .taken) (not-true (l .more) (c .if1 .taken)) ∙ l .inv .0, l .inv .2)
+    (rounds-rest (netOf (a .table .now) (a .stride) (a .strength .now) (a .d)) (l .left) (l .more) (runOf (l .partition) (l .exits) (l .strengths) (l .t)) (c .before .loop-test .taken) (not-true (l .more) (c .if1 .taken)) ∙ l .inv .0, l .inv .2)
 
 round-requires : tie.Need-round-requires Inv-loop μ-loop
 round-requires c κs =
@@ -80,7 +80,7 @@ loop-again c =
     let r = runOf (l .partition) (l .exits) (l .strengths) (l .t) in
     let k : c10 .round .result .rounds ≡ l .t .rounds + 1 = run-counts n r (c10 .round .ensures .0) in
     let z : length (a .strength .now) ≤ 512 = omega (arith, c26 .pre .0 .nodes, c26 .pre .0 .few) in (
-      loop-on n (l .left) (l .more) _ r (c17 .loop-test .taken) (not-false (l .more) (c16 .if1 .left)) (c10 .round .ensures .0) refl ∙ l .inv .0,
+      rounds-on n (l .left) (l .more) _ r (c17 .loop-test .taken) (not-false (l .more) (c16 .if1 .left)) (c10 .round .ensures .0) refl ∙ l .inv .0,
       sized-kept (a .table .now) (a .stride) (a .strength .now) (l .partition) (l .first) (l .exits) (l .strengths) (c10 .round .last .1 .1 .1 .1 .0) (c10 .round .last .1 .1 .1 .1 .1 .0) (c10 .round .last .1 .1 .1 .1 .1 .1 .0) (c10 .round .last .1 .1 .1 .1 .1 .1 .1 .0) (l .inv .1) (c10 .round .kept .1 .1 .1 .1 .0) (c10 .round .kept .1 .1 .1 .1 .1 .0) (c10 .round .kept .1 .1 .1 .1 .1 .1 .0) (c10 .round .kept .1 .1 .1 .1 .1 .1 .1 .0),
       c10 .round .ensures .1,
       c10 .round .kept .1 .1 .1 .1 .0 ∙ l .inv .3,
@@ -113,7 +113,7 @@ returns-2 c =
     let c9 = c9 in
     let a = c9 .args in
     let l = c .before .loop in
-    (loop-end (netOf (a .table .now) (a .stride) (a .strength .now) (a .d)) (l .left) (l .more) (runOf (l .partition) (l .exits) (l .strengths) (l .t)) (c .loop-test .left) ∙ l .inv .0, l .inv .2)
+    (rounds-end (netOf (a .table .now) (a .stride) (a .strength .now) (a .d)) (l .left) (l .more) (runOf (l .partition) (l .exits) (l .strengths) (l .t)) (c .loop-test .left) ∙ l .inv .0, l .inv .2)
 
 pub run-rounds-spec : {M : Type 1} → statement M
 run-rounds-spec =
