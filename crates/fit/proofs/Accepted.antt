@@ -25,6 +25,7 @@ use Rattle.tracks.specs.Settings.{checkConfig}
 use Rattle.tracks.specs.Tracks.{total, traces, checkLengths, checkCounts, checkWork, checkContents, checkTracks}
 use Rattle.tracks.proofs.Turns.{turn-first, turn-rest}
 use Rattle.tracks.proofs.Lengths.{Agreed, lengths-agree, Counted, counts-few}
+use Rattle.tracks.proofs.Unread.{SameMarked, same-fixes, same-check}
 use Rattle.fit.specs.FixLabels.{fixCount, allMedians, fixLabels}
 use Rattle.fit.specs.Demand.{Given, Demand3}
 use Rattle.fit.specs.Fit.{staySettings, Fitted, Outcome, refused, fitted, noneLabelled, unlessNone, givenBy, fromPlaces, fromMedians, fitTraces, unlessRefused, fit, givenOf}
@@ -135,3 +136,9 @@ module _ (c : Config) (xs ys times : List Float) (marks lens : List ℕ) (labels
     -- One label for each fix.
     pub fit-labels : length (f .labels) ≡ length xs
     fit-labels = traces-labels euclidean c cap ts f (a .fits) ∙ count-is
+
+-- The value of a time whose mark is not 1 does not matter.
+pub fit-unread : (c : Config) (xs ys times times' : List Float) (marks lens : List ℕ) (labels cap floats words : ℕ) → SameMarked times times' marks
+    → fit c xs ys times marks lens labels cap floats words ≡ fit c xs ys times' marks lens labels cap floats words
+unfolding fit
+fit-unread c xs ys times times' marks lens labels cap floats words s = rw (same-check xs ys times times' marks lens labels cap floats words s, same-fixes xs ys times times' marks s)
