@@ -1,22 +1,21 @@
 -- How the loops of the sums fromPartition go on and end. Assumes nothing.
-use mathlib.Core.Path.{_≡_, refl, sym, ap, _∙_}
-use mathlib.Core.Bool.{Bool, true, false, cond}
-use mathlib.Core.List.{List, [], _∷_, _++_, append-nil}
-use Prim.Native.Nat.{ℕ, zero, suc, _+_, _-_, _*_, _<_, _≤_}
+use mathlib.Core.Path.{_≡_, sym, ap, _∙_}
+use mathlib.Core.Bool.{cond}
+use mathlib.Core.List.{List}
+use Prim.Native.Nat.{ℕ, suc, _+_, _-_, _<_, _≤_}
 use native.Mathlib.Numerals.{add-one}
-use native.Mathlib.Nat.{add-sub-cancel-left, sub-zero}
-use native.Mathlib.Decide.{ℕ-discrete}
+use native.Mathlib.Nat.{sub-zero}
 use native.Mathlib.Omega.{arith}
 use lib.Dec.{eqb}
-use lib.ListN.{length, drop, take, getD, set, replicate, length-replicate, getD-replicate, drop-of-length-le, length-drop, length-set}
-use lib.Seq.{drop-cons, length-take-le, getD-set-same, getD-set-other, ext-getD}
+use lib.ListN.{length, drop, getD, set, replicate, length-replicate, getD-replicate, drop-of-length-le}
+use lib.Seq.{drop-cons, ext-getD}
 use lib.Ieee.{Float, nan}
 use Rattle.float.specs.Binary64.{add64, div64, zero64}
 use Rattle.float.specs.Ln.{plogp}
 use Rattle.map_state.specs.Network.{Network, row}
-use Rattle.map_state.specs.MapState.{MapState, lowest, leads, sumQ}
+use Rattle.map_state.specs.MapState.{lowest, leads, sumQ}
 use Rattle.map_state.specs.Arrays.{Firsts, stateOf, Sized}
-use Rattle.codelength.specs.Codelength.{addExit, exitFrom, Sums, addNode, addNodesFrom, moduleSums, noSums, sumsOf, addModule, termsFrom, terms, nodePlogpFrom, codelengthOf, codelength, fromPartition}
+use Rattle.codelength.specs.Codelength.{addExit, exitFrom, Sums, addNode, addNodesFrom, moduleSums, sumsOf, addModule, termsFrom, terms, nodePlogpFrom, codelengthOf, codelength, fromPartition}
 use Rattle.map_state.proofs.Leaders.{firsts-of}
 use Rattle.codelength.specs.declared.Terms.{Terms}
 
@@ -31,12 +30,6 @@ out-end g a part ws v p = rw (drop-of-length-le part {i = v} p)
 
 pub cleared : (xs : List Float) (n : ℕ) → length xs ≡ n → ((k : ℕ) → k < n → getD xs k nan ≡ zero64) → xs ≡ replicate n zero64
 cleared xs n e f = ext-getD nan xs (replicate n zero64) (e ∙ sym (length-replicate n zero64)) (λ k h. let i : k < n = omega arith in f k i ∙ sym (getD-replicate n k zero64 nan i))
-
-pub clear-on : (xs : List Float) (i : ℕ) → i < length xs → ((k : ℕ) → k < i → getD xs k nan ≡ zero64) → (k : ℕ) → k < i + 1 → getD (set xs i zero64) k nan ≡ zero64
-clear-on xs i h f k p = go (ℕ-discrete k i) where
-  go : Dec (k ≡ i) → getD (set xs i zero64) k nan ≡ zero64
-  go (yes e) = rw (e, getD-set-same xs i zero64 nan h)
-  go (no e) = getD-set-other xs i k zero64 nan e ∙ f k (omega arith)
 
 -- one node, from the code's steps
 pub nodes-added-is : (n : Network) (part : List ℕ) (exit strengths : List Float) (v : ℕ) {f : ℕ} {x : Float} {ws : List Float} → f ≡ lowest (getD part v 0) part → ws ≡ row n v → x ≡ exitFrom (getD part v 0) (getD exit f nan) part ws

@@ -1,7 +1,7 @@
 -- The state of a partition afresh (`from_partition`) and its codelength (`recompute_l`, `map_equation`). Definitions only.
 -- D is above 0 here: `run_infomap` answers before where it is not, so the Rust's tests of `two_m` have no place.
-use Prim.Native.Nat.{ℕ, zero, suc, _+_}
-use mathlib.Core.Bool.{Bool, true, false, cond}
+use Prim.Native.Nat.{ℕ, zero, suc}
+use mathlib.Core.Bool.{cond}
 use mathlib.Core.List.{List, [], _∷_}
 use lib.Dec.{eqb}
 use lib.ListN.{length, getD, set, replicate}

@@ -1,16 +1,16 @@
 -- The distance of two points within the limit is finite and at most three times the limit: it is at most that of two opposite corners
 -- of the square of such points, and that one is worked out. Assumes nothing.
-use mathlib.Core.Path.{_≡_, refl, sym, ap, _∙_}
-use Prim.Native.Nat.{ℕ, _*_, _≤_}
+use mathlib.Core.Path.{_≡_}
+use Prim.Native.Nat.{ℕ, _*_}
 use native.Mathlib.Nat.{le-trans, le-of-eq, mul-one, mul-right-comm, mul-le-mul-right, le-of-mul-le-mul-right}
-use native.Mathlib.Omega.{arith}
 use mathlib.Core.Bool.{Bool, true, false, _&&_, false≢true}
-use lib.Dec.{T, leb, leb→le, le→leb}
-use lib.Ieee.{Float, nan, inf, fin, binary64, up, down, add, sub, mul, ofInt, round}
+use lib.Dec.{T, leb→le, le→leb, lit≤}
+use lib.Ieee.{Float, nan, inf, fin, binary64, up, down, add, mul, ofInt, ofBits}
 use lib.Ieee.Bits.{is-true}
 use lib.Ieee.Fits.{down-pos}
 use lib.Ieee.Scale.{finite}
-use Rattle.float.specs.Binary64.{add64, sub64, mul64, whole64}
+use Rattle.float.specs.Binary64.{add64, sub64, mul64, whole64, half64}
+use Rattle.float.proofs.Order.{true→T}
 use Rattle.float.specs.Root.{root}
 use Rattle.float.proofs.Monotone.{nonneg}
 use Rattle.distance.specs.declared.Point.{Point}
@@ -44,10 +44,13 @@ record Corner : Type 0 where
   pub r-finite : T (finite r64)
   pub r-nonneg : T (nonneg r64)
   pub r-within : T (within (3 * limit) r64)
+  pub half : Under half64 half64
+  pub h-finite : T (finite (mul64 half64 d64))
+  pub h-within : T (within limit (mul64 half64 d64))
 
 corner : Corner
-unfolding l64 d64 q64 s64 r64 add mul ofInt root within
-corner = record { l-nonneg = tt; d-finite = tt; q-finite = tt; q-nonneg = tt; s-finite = tt; s-nonneg = tt; r-finite = tt; r-nonneg = tt; r-within = tt }
+unfolding l64 d64 q64 s64 r64 add mul ofInt root within ofBits
+corner = record { l-nonneg = tt; d-finite = tt; q-finite = tt; q-nonneg = tt; s-finite = tt; s-nonneg = tt; r-finite = tt; r-nonneg = tt; r-within = tt; half = lit≤ tt; h-finite = tt; h-within = tt }
 
 -- a value within the limit, against the limit as a float
 within-under : (x : Float) → T (within limit x) → Under x l64
@@ -97,3 +100,15 @@ bound a b h k =
     (under-within (3 * limit) (euclidean a b) r64
     (at-most-corner (sub64 (a .x) (b .x)) (sub64 (a .y) (b .y)) (difference (a .x) (b .x) (p .0) (q .0)) (difference (a .y) (b .y) (p .1) (q .1)))
     (corner .r-within))
+
+-- half the sum of two coordinates within the limit is within it
+pub half-sum : (x y : Float) → within limit x ≡ true → within limit y ≡ true → within limit (mul64 half64 (add64 x y)) ≡ true
+unfolding d64
+half-sum x y h k =
+    is-true (within limit (mul64 half64 (add64 x y)))
+    (under-within limit (mul64 half64 (add64 x y)) (mul64 half64 d64)
+    (mul-under half64 (add64 x y) half64 d64 (corner .h-finite) (corner .half) (sum x y (true→T h) (true→T k)))
+    (corner .h-within))
+  where
+    sum : (x y : Float) → T (within limit x) → T (within limit y) → Under (add64 x y) d64
+    sum x y h k = add-under x y l64 l64 (corner .l-nonneg) (corner .l-nonneg) (corner .d-finite) (within-under x h) (within-under y k)

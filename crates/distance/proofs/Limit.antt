@@ -1,36 +1,15 @@
 -- The limit against a float: two comparisons tell whether a coordinate is within it. Assumes nothing.
 use mathlib.Core.Path.{_≡_, refl, sym, ap, _∙_}
-use Prim.Native.Nat.{ℕ, _+_, _*_, _≤_, _<_}
-use native.Mathlib.Nat.{mul-pos}
+use Prim.Native.Nat.{ℕ, _+_, _*_, _<_}
 use native.Mathlib.Omega.{arith}
-use mathlib.Core.Bool.{Bool, true, false, not, _&&_, _||_, false≢true}
-use borrow.Author.Tests.{ltb-true, ltb-false, leb-true, leb-false, eqb-true, eqb-false, lt-ltb, le-leb, lt-leb}
-use lib.Dec.{leb, ltb, eqb}
-use lib.Ieee.{Float, nan, inf, fin, binary64, up, down, lt, le, eq, neg, ofInt}
+use mathlib.Core.Bool.{Bool, true, false, _&&_, _||_, false≢true}
+use borrow.Author.Tests.{ltb-true, ltb-false, lt-ltb, le-leb, lt-leb}
+use lib.Dec.{leb, eqb}
+use lib.Ieee.{Float, nan, inf, fin, up, down, lt, le, eq, neg, ofInt}
 use lib.Ieee.Fits.{down-pos}
 use Rattle.float.specs.Binary64.{whole64}
 use Rattle.distance.specs.Limit.{limit, within}
-
--- `<=` of two numbers by `<` and `==`
-at-most : (a b : ℕ) → (ltb a b || (eqb a b && true)) ≡ leb a b
-at-most a b = go (leb a b) (ltb a b) (eqb a b) refl refl refl
-  where
-    go : (l x y : Bool) → leb a b ≡ l → ltb a b ≡ x → eqb a b ≡ y → (x || (y && true)) ≡ l
-    go true true y p q r = refl
-    go true false true p q r = refl
-    go true false false p q r =
-        let u = leb-true a b p in
-        let v = ltb-false a b q in
-        absurd (eqb-false a b r (omega arith))
-    go false true y p q r =
-        let u = leb-false a b p in
-        let v = ltb-true a b q in
-        absurd (omega arith)
-    go false false true p q r =
-        let u = leb-false a b p in
-        let v = eqb-true a b r in
-        absurd (omega arith)
-    go false false false p q r = refl
+use Rattle.distance.proofs.Size.{at-most}
 
 pub below-limit : (x : Float) → lt x (neg (whole64 limit)) ≡ true → within limit x ≡ false
 unfolding lt within neg ofInt

@@ -1,10 +1,11 @@
 -- The sizes of binary64 values: every operation here takes arguments of larger size to a result of larger size. Assumes nothing.
-use mathlib.Core.Path.{_≡_, refl, sym, ap, ap₂, _∙_, subst}
+use mathlib.Core.Path.{_≡_, refl, sym, subst}
 use Prim.Native.Nat.{ℕ, zero, suc, _+_, _-_, _*_, _/_, _%_, _^_, _≤_, _<_, compare}
-use native.Mathlib.Nat.{le-of-eq, mul-le-mul, mul-le-mul-right, mul-pos}
+use native.Mathlib.Nat.{mul-le-mul, mul-le-mul-right, mul-pos}
 use native.Mathlib.Omega.{arith}
-use mathlib.Core.Bool.{Bool, true, false, not, _&&_, _||_, Bool·beq, cond, true≢false}
-use lib.Dec.{T, ltb, eqb, ltb→lt, eqb→eq}
+use mathlib.Core.Bool.{Bool, true, false, _&&_, _||_, Bool·beq, cond}
+use borrow.Author.Tests.{ltb-true, ltb-false, leb-true, leb-false, eqb-true, eqb-false}
+use lib.Dec.{T, leb, ltb, eqb, leb→le}
 use lib.Ieee.{Float, nan, inf, fin, Format, binary64, prec, emax, low, up, down, unlike, size, nearest, odd, units, round, sum, add, sub, mul, neg, lt, le, eq}
 use lib.Ieee.Fits.{down-pos}
 use lib.Ieee.Order.{round-mono, le-of-values}
@@ -72,16 +73,29 @@ round-nonneg f a c =
 
 -- ---- the order of values that are not negative is that of their sizes
 
-test-le : (a b : ℕ) → T (ltb a b || (eqb a b && true)) → a ≤ b
-test-le a b t = go (ltb a b) (eqb a b) (ltb→lt a b) (eqb→eq a b) t
+-- `<=` of two numbers by `<` and `==`
+pub at-most : (a b : ℕ) → (ltb a b || (eqb a b && true)) ≡ leb a b
+at-most a b = go (leb a b) (ltb a b) (eqb a b) refl refl refl
   where
-    weak : a < b → a ≤ b
-    weak h = omega arith
+    go : (l x y : Bool) → leb a b ≡ l → ltb a b ≡ x → eqb a b ≡ y → (x || (y && true)) ≡ l
+    go true true y p q r = refl
+    go true false true p q r = refl
+    go true false false p q r =
+        let u = leb-true a b p in
+        let v = ltb-false a b q in
+        absurd (eqb-false a b r (omega arith))
+    go false true y p q r =
+        let u = leb-false a b p in
+        let v = ltb-true a b q in
+        absurd (omega arith)
+    go false false true p q r =
+        let u = leb-false a b p in
+        let v = eqb-true a b r in
+        absurd (omega arith)
+    go false false false p q r = refl
 
-    go : (x y : Bool) → (T x → a < b) → (T y → a ≡ b) → T (x || (y && true)) → a ≤ b
-    go true y p q t = weak (p tt)
-    go false true p q t = le-of-eq (q tt)
-    go false false p q t = absurd t
+test-le : (a b : ℕ) → T (ltb a b || (eqb a b && true)) → a ≤ b
+test-le a b t = leb→le a b (subst T (at-most a b) t)
 
 pub le-under : (x y : Float) → T (nonneg x) → T (nonneg y) → T (finite y) → T (le x y) → Under x y
 unfolding le lt eq

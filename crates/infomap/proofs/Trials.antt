@@ -1,13 +1,12 @@
 -- A trial kept or not, the trials one after the other, and the slices of the run. Assumes nothing.
-use mathlib.Core.Path.{_≡_, refl, sym, ap, _∙_}
-use mathlib.Core.Bool.{Bool, true, false, cond}
-use mathlib.Core.List.{List, [], _∷_}
-use Prim.Native.Nat.{ℕ, zero, suc, _+_, _-_, _*_, _<_, _≤_}
+use mathlib.Core.Path.{_≡_, refl, sym, _∙_}
+use mathlib.Core.Bool.{Bool, true, false}
+use mathlib.Core.List.{List}
+use Prim.Native.Nat.{ℕ, zero, suc, _-_, _<_, _≤_}
 use native.Mathlib.Nat.{sub-zero}
 use native.Mathlib.Omega.{arith}
-use native.Mathlib.Decide.{ℕ-discrete}
-use lib.ListN.{length, getD, set, take, drop, length-set}
-use lib.Seq.{getD-set-same, getD-set-other, ext-getD, length-take-le}
+use lib.ListN.{length, getD, take, drop}
+use lib.Seq.{ext-getD, length-take-le}
 use lib.Ieee.{Float, lt}
 use Rattle.lists.specs.Lists.{upto}
 use Rattle.float.specs.Binary64.{mul64, zero64, two64}
@@ -17,8 +16,7 @@ use Rattle.map_state.specs.Arrays.{netOf, Rows, Sized}
 use Rattle.map_state.proofs.Rows.{row-inside}
 use Rattle.codelength.specs.Codelength.{codelength}
 use Rattle.optimize.specs.Rounds.{Run, optimizePartition}
-use Rattle.infomap.specs.declared.Mark.{Mark}
-use Rattle.infomap.specs.Infomap.{Grouping, RunMark, rest, markOf, trialMark, keep, trials, bestOfThree, keptGrouping, relabelDense, runInfomap}
+use Rattle.infomap.specs.Infomap.{Grouping, RunMark, rest, trialMark, keep, trials, bestOfThree, keptGrouping, relabelDense, runInfomap}
 
 module _ (n : Network) (k : Grouping) (s : Run) {part : List ℕ} {l : Float} (same : s .state .partition ≡ part) (len : l ≡ codelength n part) where
   pub keep-yes : {rounds : ℕ} {moved : Bool} {m : RunMark} {best : List ℕ} → s .rounds ≡ rounds → s .moved ≡ moved → lt l (k .codelength) ≡ true → best ≡ part → m ≡ trialMark moved
@@ -49,12 +47,6 @@ trials-end n (suc t) x k h = absurd (omega arith)
 -- ---- a copy
 pub copied : (to from : List ℕ) → length to ≡ length from → ((k : ℕ) → k < length from → getD to k 0 ≡ getD from k 0) → to ≡ from
 copied to from e f = ext-getD 0 to from e (λ k h. f k (omega arith))
-
-pub copy-on : (to from : List ℕ) (i : ℕ) → i < length to → ((k : ℕ) → k < i → getD to k 0 ≡ getD from k 0) → (k : ℕ) → k < i + 1 → getD (set to i (getD from i 0)) k 0 ≡ getD from k 0
-copy-on to from i h f k p = go (ℕ-discrete k i) where
-  go : Dec (k ≡ i) → getD (set to i (getD from i 0)) k 0 ≡ getD from k 0
-  go (yes e) = rw (e, getD-set-same to i (getD from i 0) 0 h)
-  go (no e) = getD-set-other to i k (getD from i 0) 0 e ∙ f k (omega arith)
 
 -- ---- with and without links
 pub kept-links : (n : Network) (seed : ℕ) {k : Grouping} → lt zero64 (n .d) ≡ true → k ≡ bestOfThree n (seeded seed) → k ≡ keptGrouping n seed

@@ -1,8 +1,7 @@
 -- The definition, run on a small network.
 use mathlib.Core.Path.{_≡_, refl}
-use Prim.Native.Nat.{ℕ, suc}
-use mathlib.Core.List.{List, [], _∷_, map}
-use lib.ListN.{length}
+use Prim.Native.Nat.{ℕ}
+use mathlib.Core.List.{List, [], _∷_}
 use lib.Ieee.{Float, size, add, sub, mul, div, neg, lt, ofInt, ofBits}
 use Rattle.lists.specs.Lists.{from, upto}
 use Rattle.float.specs.Binary64.{zero64, one64}
@@ -13,7 +12,7 @@ use Rattle.map_state.specs.MapState.{lowest, count, leads, statsAt, sumQFrom, s
 use Rattle.codelength.specs.Codelength.{addExit, exitFrom, addNode, addNodesFrom, moduleSums, fromPartition, addModule, termsFrom, nodePlogpFrom, codelengthOf, codelength}
 use Rattle.scan.specs.Scan.{place, candidates, bestDelta, better, consider, scanFrom, scan, highestFrom, isolate}
 use Rattle.optimize.specs.Rounds.{act, pass, round, runRounds, optimizePartition}
-use Rattle.infomap.specs.Infomap.{Grouping, rest, trialMark, keep, trials, bestOfThree, keptGrouping, rank, relabelDense, runInfomap}
+use Rattle.infomap.specs.Infomap.{rest, trialMark, keep, trials, bestOfThree, keptGrouping, rank, relabelDense, runInfomap}
 
 -- With no nodes: rest, rounds 0.
 pub no-nodes : (table : List Float) (stride seed : ℕ) → runInfomap (network table stride 0) seed ≡ record { partition = []; mark = rest; rounds = 0; codelength = zero64 }

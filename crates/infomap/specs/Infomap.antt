@@ -1,5 +1,5 @@
 -- Three trials on one generator, the kept one, and its labels (`run_infomap`). Definitions only.
-use Prim.Native.Nat.{ℕ, zero, suc, _+_}
+use Prim.Native.Nat.{ℕ, zero, suc}
 use mathlib.Core.Bool.{Bool, true, false, cond}
 use mathlib.Core.List.{List, map}
 use lib.ListN.{length}

@@ -89,3 +89,12 @@ unfolding sum
 sum-more zero n f h = omega arith
 sum-more (suc m) zero f h = absurd (omega arith)
 sum-more (suc m) (suc n) f h = let r = sum-more m n (λ v. f (suc v)) (omega arith) in omega arith
+
+pub sum-split : (m n : ℕ) (f : ℕ → ℕ) → sum (m + n) f ≡ sum m f + sum n (λ v. f (m + v))
+unfolding sum
+sum-split zero n f =
+    let e : 0 + n ≡ n = omega arith in
+    ap (λ (z : ℕ). sum z f) e ∙ (let r = sum-ext n f (λ v. f (0 + v)) (λ v p. ap f (let q : v ≡ 0 + v = omega arith in q)) in omega arith)
+sum-split (suc m) n f =
+    let e : suc m + n ≡ suc (m + n) = omega arith in
+    ap (λ (z : ℕ). sum z f) e ∙ (let r = sum-split m n (λ v. f (suc v)) in let s = sum-ext n (λ v. f (suc (m + v))) (λ v. f (suc m + v)) (λ v p. ap f (let q : suc (m + v) ≡ suc m + v = omega arith in q)) in omega arith)

@@ -3,7 +3,7 @@ use mathlib.Core.Path.{_≡_, refl, sym, ap, _∙_}
 use mathlib.Core.Bool.{Bool, true, false, cond}
 use mathlib.Core.List.{List, [], _∷_}
 use mathlib.Core.Logic.{_≢_}
-use Prim.Native.Nat.{ℕ, zero, suc, _+_, _-_, _<_, _≤_}
+use Prim.Native.Nat.{ℕ, suc, _<_, _≤_}
 use native.Mathlib.Omega.{arith}
 use borrow.Author.Tests.{eqb-true}
 use lib.Dec.{eqb}
@@ -64,7 +64,7 @@ module _ (n : Network) (s : MapState) (u h : ℕ) (hu : u < length (s .partition
       let p : lowest h after ≤ u = rw e at o in
       omega (arith, length-set (s .partition) u h)
 
-  -- the group that u afterMove to
+  -- the group that u moves to
   pub exit-to : statsOf (applyMove n s u h) h .exit ≡ movedBy n s u h .dest .exit
   unfolding applyMove statsAt
   exit-to = put-last after (s .exits) old h d same _ _ zero64 there

@@ -1,16 +1,12 @@
--- How a loop div64 the nodes goes on and ends: link weights, lowest member, number of members. Assumes nothing.
-use mathlib.Core.Path.{_≡_, refl, sym, ap, _∙_}
-use mathlib.Core.Bool.{Bool, true, false, cond}
-use mathlib.Core.List.{List, [], _∷_}
-use Prim.Native.Nat.{ℕ, zero, suc, _+_, _-_, _<_, _≤_}
+-- How a loop over the nodes goes on and ends: link weights, lowest member, number of members. Assumes nothing.
+use mathlib.Core.Path.{_≡_}
+use mathlib.Core.List.{List}
+use Prim.Native.Nat.{ℕ, suc, _+_, _<_, _≤_}
 use native.Mathlib.Numerals.{add-one}
 use native.Mathlib.Omega.{arith}
-use native.Mathlib.Decide.{ℕ-discrete}
-use mathlib.Core.Logic.{_≢_}
-use borrow.Author.Tests.{eq-eqb, ne-eqb, eqb-true, eqb-false}
-use lib.Dec.{eqb}
-use lib.ListN.{length, drop, getD, set, drop-of-length-le, length-set}
-use lib.Seq.{drop-cons, getD-set-same, getD-set-other}
+use borrow.Author.Tests.{eq-eqb, ne-eqb}
+use lib.ListN.{length, drop, getD, drop-of-length-le}
+use lib.Seq.{drop-cons}
 use lib.Ieee.{Float, nan}
 use Rattle.map_state.specs.declared.Links.{Links}
 use Rattle.map_state.specs.MapState.{addLink, linkWeightsFrom, lowest, count}
@@ -47,15 +43,3 @@ count-skip g part v p e = rw (add-one v, drop-cons part v 0 p, ne-eqb (getD part
 pub count-end : (g : ℕ) (part : List ℕ) (v : ℕ) → length part ≤ v → count g (drop v part) ≡ 0
 unfolding count
 count-end g part v p = rw (drop-of-length-le part {i = v} p)
-
--- a loop that sets element after element: what is known below the index, and from it on
-module _ {A : Type 0} (d : A) (l : List A) (v : ℕ) (x : A) where
-  below1 : (k : ℕ) → v < length l → (f : ℕ → A) → ((k : ℕ) → k < v → getD l k d ≡ f k) → x ≡ f v → k < v + 1 → Dec (k ≡ v) → getD (set l v x) k d ≡ f k
-  below1 k h f e p q (yes r) = ap (λ (z : ℕ). getD (set l v x) z d) r ∙ getD-set-same l v x d h ∙ p ∙ ap f (sym r)
-  below1 k h f e p q (no r) = getD-set-other l v k x d r ∙ e k (omega arith)
-
-  pub map-below : v < length l → (f : ℕ → A) → ((k : ℕ) → k < v → getD l k d ≡ f k) → x ≡ f v → (k : ℕ) → k < v + 1 → getD (set l v x) k d ≡ f k
-  map-below h f e p k q = below1 k h f e p q (ℕ-discrete k v)
-
-  pub map-above : (f : ℕ → A) → ((k : ℕ) → v ≤ k → getD l k d ≡ f k) → (k : ℕ) → v + 1 ≤ k → getD (set l v x) k d ≡ f k
-  map-above f e k q = getD-set-other l v k x d (λ r. omega arith) ∙ e k (omega arith)

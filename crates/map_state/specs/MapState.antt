@@ -1,7 +1,7 @@
 -- What the run carries (`MapState` of the Rust), the change of codelength by a move, and the move. Definitions only.
 -- A partition gives each node the internal number of its group. A group's exit weight and strength stand at its lowest member.
-use Prim.Native.Nat.{ℕ, zero, suc, _+_, _-_, _*_, _<_, _≤_}
-use mathlib.Core.Bool.{Bool, true, false, cond}
+use Prim.Native.Nat.{ℕ, zero, suc, _+_, _-_}
+use mathlib.Core.Bool.{Bool, cond}
 use mathlib.Core.List.{List, [], _∷_}
 use lib.Dec.{eqb}
 use lib.ListN.{length, getD, set}

@@ -1,8 +1,8 @@
 -- The nodes, their links and strengths (`Network` of the Rust). Definitions only.
 -- The table holds the weights, row after row at a stride, with 0 for no link. Two nodes link where their weight is above 0.
 -- A fit's table is symmetric, with 0 on the diagonal; the definitions take any table.
-use Prim.Native.Nat.{ℕ, zero, suc, _+_, _*_}
-use mathlib.Core.Bool.{Bool, true, false, cond}
+use Prim.Native.Nat.{ℕ, zero, suc, _*_}
+use mathlib.Core.Bool.{cond}
 use mathlib.Core.List.{List, [], _∷_}
 use lib.ListN.{length, take, drop}
 use lib.Ieee.{Float, lt}

@@ -3,19 +3,17 @@ use mathlib.Core.Path.{_≡_, refl, sym, ap, ap₂, _∙_, subst}
 use mathlib.Core.Bool.{Bool, true, false, cond}
 use mathlib.Core.List.{List}
 use Prim.Native.Nat.{ℕ, zero, suc, _+_, _*_, _^_, _<_, _≤_, max}
-use native.Mathlib.Nat.{max-comm, max-le, le-max-left, mul-pos, le-trans, mul-le-mul, zero-mul}
+use native.Mathlib.Nat.{max-comm, max-le, le-max-left, le-trans, mul-le-mul}
 use native.Mathlib.Omega.{arith}
 use borrow.Author.Tests.{lt-ltb}
-use lib.Dec.{ltb, lit≤}
+use lib.Dec.{lit≤}
 use lib.ListN.{length}
-use lib.Ieee.{Float, nan, inf, fin, up, down, lt, ofBits}
-use lib.Ieee.Fits.{down-pos}
-use lib.Ieee.Exact.{HasValue}
+use lib.Ieee.{Float, lt, ofBits}
 use Rattle.lists.specs.Sums.{sum}
 use Rattle.lists.proofs.Sums.{sum-times}
 use Rattle.lists.proofs.Tests.{clash}
 use Rattle.float.specs.Binary64.{whole64, zero64}
-use Rattle.float.proofs.Exact.{most, is-whole, zero-whole}
+use Rattle.float.proofs.Exact.{most, whole-lt, zero-whole}
 use Rattle.neighbors.specs.Places.{Place, placeAt, stayCount}
 use Rattle.neighbors.specs.Links.{Metric, link, weight, wholeWeight}
 use Rattle.neighbors.proofs.Found.{Counted}
@@ -24,18 +22,8 @@ use Rattle.neighbors.proofs.Linked.{link-self, link-sym}
 
 -- ---- whole numbers above 0
 
-lt-zero : (x : Float) (n : ℕ) → HasValue x false n 1 → 0 < n → lt zero64 x ≡ true
-unfolding lt ofBits
-lt-zero nan n h p = absurd h
-lt-zero (inf s) n h p = absurd h
-lt-zero (fin true m e) n h p = absurd (mathlib.Core.Bool.true≢false (h .0))
-lt-zero (fin false m e) n h p =
-    let a : 0 < n * down e = mul-pos p (down-pos e) in
-    let b : 0 < m * up e = omega (arith, h .1) in
-    lt-ltb (0 * 1 * down e) (m * up e * 1) (omega (arith, zero-mul (1 * down e)))
-
 pub whole-above : (n : ℕ) → 0 < n → n ≤ most → lt zero64 (whole64 n) ≡ true
-whole-above n h k = lt-zero (whole64 n) n (is-whole n k) h
+whole-above n h k = ap (λ (z : Float). lt z (whole64 n)) zero-whole ∙ whole-lt 0 n (omega arith) k ∙ lt-ltb 0 n h
 
 pub zero-not-above : lt zero64 zero64 ≡ false
 unfolding lt ofBits

@@ -1,10 +1,9 @@
 -- What is known at the end of a trial: its rounds, and how high its internal numbers are. Assumes nothing.
-use mathlib.Core.Path.{_≡_, refl, sym, ap, _∙_}
+use mathlib.Core.Path.{_≡_, refl, _∙_}
 use mathlib.Core.Bool.{Bool, true, false}
-use mathlib.Core.List.{List}
 use Prim.Native.Nat.{ℕ, zero, suc, _+_, _*_, _<_, _≤_}
 use native.Mathlib.Omega.{arith}
-use lib.ListN.{length, getD}
+use lib.ListN.{length}
 use Rattle.lists.specs.Lists.{upto}
 use Rattle.lists.proofs.Tests.{clash}
 use Rattle.lists.proofs.Upto.{length-upto, getD-upto}

@@ -1,19 +1,17 @@
 -- The groups' numbers grow by at most one a node in an isolation pass, and not in a pass of moves. Assumes nothing.
-use mathlib.Core.Path.{_≡_, refl, sym, ap, _∙_}
+use mathlib.Core.Path.{_≡_}
 use mathlib.Core.Bool.{Bool, true, false, cond}
 use mathlib.Core.List.{List, [], _∷_}
-use mathlib.Core.Logic.{_≢_}
-use Prim.Native.Nat.{ℕ, zero, suc, _+_, _-_, _<_, _≤_}
+use Prim.Native.Nat.{ℕ, suc, _+_, _<_, _≤_}
 use native.Mathlib.Decide.{ℕ-discrete}
-use native.Mathlib.Nat.{le-refl, add-zero}
+use native.Mathlib.Nat.{add-zero}
 use native.Mathlib.Omega.{arith}
-use borrow.Author.Tests.{ltb-true, ltb-false}
 use lib.Dec.{ltb, eqb}
 use lib.ListN.{length, getD, set, length-set}
 use lib.Seq.{getD-set-same, getD-set-other}
-use lib.Ieee.{Float, lt, neg, nan}
+use lib.Ieee.{lt, neg}
 use Rattle.scan.specs.Scan.{margin, scan, scanFrom, consider, better, bestDelta, isolate, highestFrom, candidates, Answer, noMove, move}
-use Rattle.float.specs.Binary64.{sub64, zero64}
+use Rattle.float.specs.Binary64.{sub64}
 use Rattle.map_state.specs.Network.{Network, row}
 use Rattle.map_state.specs.MapState.{MapState, applyMove, deltaMove}
 use Rattle.optimize.specs.Rounds.{Pass, act, pass, AtMost}
@@ -78,19 +76,19 @@ unfolding act applyMove
 act-at-most b n w u noMove f t = f
 act-at-most b n w u (move h d) f t = at-most-set b (w .state .partition) u h t f
 
-pub sweep-at-most : (b : ℕ) (n : Network) (w : Pass) (us : List ℕ) → AtMost b (w .state .partition) → AtMost b (pass scan n w us .state .partition)
+pub move-pass-at-most : (b : ℕ) (n : Network) (w : Pass) (us : List ℕ) → AtMost b (w .state .partition) → AtMost b (pass scan n w us .state .partition)
 unfolding pass
-sweep-at-most b n w [] f = f
-sweep-at-most b n w (u ∷ us) f = sweep-at-most b n (act n w u (scan n (w .state) u)) us (act-at-most b n w u (scan n (w .state) u) f (scan-to b n (w .state) u f))
+move-pass-at-most b n w [] f = f
+move-pass-at-most b n w (u ∷ us) f = move-pass-at-most b n (act n w u (scan n (w .state) u)) us (act-at-most b n w u (scan n (w .state) u) f (scan-to b n (w .state) u f))
 
-pub isolation-at-most : (b : ℕ) (n : Network) (w : Pass) (us : List ℕ) → AtMost b (w .state .partition) → AtMost (b + length us) (pass isolate n w us .state .partition)
+pub isolation-pass-at-most : (b : ℕ) (n : Network) (w : Pass) (us : List ℕ) → AtMost b (w .state .partition) → AtMost (b + length us) (pass isolate n w us .state .partition)
 unfolding pass
-isolation-at-most b n w [] f = rw (add-zero b) f
-isolation-at-most b n w (u ∷ us) f =
+isolation-pass-at-most b n w [] f = rw (add-zero b) f
+isolation-pass-at-most b n w (u ∷ us) f =
     at-most-more (b + 1 + length us) (b + suc (length us)) _ (omega arith)
-    (isolation-at-most (b + 1) n (act n w u (isolate n (w .state) u)) us (act-at-most (b + 1) n w u (isolate n (w .state) u) (at-most-more b (b + 1) (w .state .partition) (omega arith) f) (isolate-to b n (w .state) u f)))
+    (isolation-pass-at-most (b + 1) n (act n w u (isolate n (w .state) u)) us (act-at-most (b + 1) n w u (isolate n (w .state) u) (at-most-more b (b + 1) (w .state .partition) (omega arith) f) (isolate-to b n (w .state) u f)))
 
--- one node of an isolationPass pass, as the code's runRounds counts
+-- one node of an isolation pass, as the code's loop counts
 pub act-isolate-at-most : (i : ℕ) (n : Network) (w : Pass) (u : ℕ) {a : Answer} {w' : Pass} → AtMost (900000 + i) (w .state .partition) → a ≡ isolate n (w .state) u → w' ≡ act n w u a → AtMost (900000 + (i + 1)) (w' .state .partition)
 act-isolate-at-most i n w u f p q =
     rw (q, p) (at-most-more (900000 + i + 1) (900000 + (i + 1)) _ (omega arith)

@@ -1,10 +1,9 @@
 -- How a pass goes on, node by node. Assumes nothing.
-use mathlib.Core.Path.{_≡_, refl, sym, ap, _∙_}
-use mathlib.Core.Bool.{Bool, true, false}
-use mathlib.Core.List.{List, [], _∷_}
-use Prim.Native.Nat.{ℕ, zero, suc, _+_, _-_, _<_, _≤_, _*_}
+use mathlib.Core.Path.{_≡_, sym, _∙_}
+use mathlib.Core.Bool.{true}
+use mathlib.Core.List.{List}
+use Prim.Native.Nat.{ℕ, _+_, _<_, _≤_}
 use native.Mathlib.Numerals.{add-one}
-use native.Mathlib.Omega.{arith}
 use lib.ListN.{length, getD, drop, drop-of-length-le}
 use lib.Seq.{drop-cons}
 use lib.Ieee.{Float}
@@ -12,7 +11,7 @@ use Rattle.map_state.specs.Network.{Network}
 use Rattle.map_state.specs.MapState.{MapState, applyMove}
 use Rattle.map_state.specs.Arrays.{Sized}
 use Rattle.optimize.specs.Rounds.{Pass, act, pass}
-use Rattle.scan.specs.Scan.{Answer, noMove, move, answerOf}
+use Rattle.scan.specs.Scan.{Answer, answerOf}
 use Rattle.scan.specs.declared.Scan.{Scan}
 use Rattle.scan.specs.declared.Scan.the-variants.{Stay, Move}
 

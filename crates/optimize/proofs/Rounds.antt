@@ -1,19 +1,17 @@
 -- A round from its parts, and the rounds one after the other. Assumes nothing.
-use mathlib.Core.Path.{_≡_, refl, sym, ap, _∙_}
+use mathlib.Core.Path.{_≡_, refl, ap, _∙_}
 use mathlib.Core.Bool.{Bool, true, false}
-use mathlib.Core.List.{List, [], _∷_}
-use Prim.Native.Nat.{ℕ, zero, suc, _+_, _-_, _*_, _<_, _≤_}
+use mathlib.Core.List.{List}
+use Prim.Native.Nat.{ℕ, zero, suc, _+_, _-_, _<_, _≤_}
 use native.Mathlib.Omega.{arith}
 use lib.ListN.{length}
-use lib.Ieee.{Float}
 use Rattle.map_state.specs.Network.{Network}
-use Rattle.map_state.specs.MapState.{MapState}
 use Rattle.scan.specs.Scan.{scan, isolate}
 use Rattle.rng.specs.Rng.{shuffle}
 use Rattle.lists.specs.Lists.{upto}
 use Rattle.optimize.specs.Rounds.{Pass, Run, pass, round, runRounds, AtMost}
 use Rattle.rng.proofs.Visits.{order-length}
-use Rattle.optimize.proofs.Numbers.{sweep-at-most, isolation-at-most}
+use Rattle.optimize.proofs.Numbers.{move-pass-at-most, isolation-pass-at-most}
 
 pub round-is : (n : Network) (r : Run) {k : ℕ} {o : List ℕ} {x : ℕ} {v w : Pass} → k ≡ length (n .strength) → shuffle (r .rng) (upto k) ≡ record { list = o; rng = x }
     → v ≡ pass scan n (record { state = r .state; moved = false }) o → w ≡ pass isolate n v o
@@ -26,31 +24,31 @@ unfolding round
 round-at-most b n r f =
     let o = shuffle (r .rng) (upto (length (n .strength))) .list in
     rw (order-length (r .rng) (length (n .strength))) at
-    (isolation-at-most b n (pass scan n (record { state = r .state; moved = false }) o) o (sweep-at-most b n (record { state = r .state; moved = false }) o f))
+    (isolation-pass-at-most b n (pass scan n (record { state = r .state; moved = false }) o) o (move-pass-at-most b n (record { state = r .state; moved = false }) o f))
 
 pub round-counts : (n : Network) (r : Run) → round n r .rounds ≡ r .rounds + 1
 unfolding round
 round-counts n r = refl
 
-pub loop-on : (n : Network) (k : ℕ) (b c : Bool) (r : Run) {s : Run} → 0 < k → b ≡ true → s ≡ round n r → c ≡ s .moved → runRounds n (k - 1) c s ≡ runRounds n k b r
+pub rounds-on : (n : Network) (k : ℕ) (b c : Bool) (r : Run) {s : Run} → 0 < k → b ≡ true → s ≡ round n r → c ≡ s .moved → runRounds n (k - 1) c s ≡ runRounds n k b r
 unfolding runRounds
-loop-on n zero b c r h p q e = absurd (omega arith)
-loop-on n (suc k) b c r h p q e =
+rounds-on n zero b c r h p q e = absurd (omega arith)
+rounds-on n (suc k) b c r h p q e =
     let m : suc k - 1 ≡ k = omega arith in
     rw (e, q, p, m)
 
-pub loop-rest : (n : Network) (k : ℕ) (b : Bool) (r : Run) → 0 < k → b ≡ false → r ≡ runRounds n k b r
+pub rounds-rest : (n : Network) (k : ℕ) (b : Bool) (r : Run) → 0 < k → b ≡ false → r ≡ runRounds n k b r
 unfolding runRounds
-loop-rest n zero b r h p = absurd (omega arith)
-loop-rest n (suc k) b r h p = rw p
+rounds-rest n zero b r h p = absurd (omega arith)
+rounds-rest n (suc k) b r h p = rw p
 
-pub loop-end : (n : Network) (k : ℕ) (b : Bool) (r : Run) → k ≤ 0 → r ≡ runRounds n k b r
+pub rounds-end : (n : Network) (k : ℕ) (b : Bool) (r : Run) → k ≤ 0 → r ≡ runRounds n k b r
 unfolding runRounds
-loop-end n zero b r h = refl
-loop-end n (suc k) b r h = absurd (omega arith)
+rounds-end n zero b r h = refl
+rounds-end n (suc k) b r h = absurd (omega arith)
 
-pub swept-at-most : (b : ℕ) (n : Network) (w : Pass) (us : List ℕ) {v : Pass} → v ≡ pass scan n w us → AtMost b (w .state .partition) → AtMost b (v .state .partition)
-swept-at-most b n w us e f = rw e (sweep-at-most b n w us f)
+pub moved-at-most : (b : ℕ) (n : Network) (w : Pass) (us : List ℕ) {v : Pass} → v ≡ pass scan n w us → AtMost b (w .state .partition) → AtMost b (v .state .partition)
+moved-at-most b n w us e f = rw e (move-pass-at-most b n w us f)
 
 pub run-at-most : (b : ℕ) (n : Network) (r : Run) {s : Run} → s ≡ round n r → AtMost b (r .state .partition) → AtMost (b + length (n .strength)) (s .state .partition)
 run-at-most b n r e f = rw e (round-at-most b n r f)

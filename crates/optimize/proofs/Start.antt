@@ -1,12 +1,12 @@
 -- The start of a trial, each node in a group of its own, and the trial from its parts. Assumes nothing.
-use mathlib.Core.Path.{_≡_, refl, sym, ap, _∙_}
-use mathlib.Core.Bool.{Bool, true, false}
-use mathlib.Core.List.{List, [], _∷_}
+use mathlib.Core.Path.{_≡_, sym, ap, _∙_}
+use mathlib.Core.Bool.{true}
+use mathlib.Core.List.{List}
 use Prim.Native.Nat.{ℕ, zero, suc, _+_, _<_, _≤_}
 use native.Mathlib.Nat.{add-zero}
 use native.Mathlib.Omega.{arith}
 use borrow.Author.Tests.{eq-eqb, ne-eqb}
-use lib.ListN.{length, getD}
+use lib.ListN.{length}
 use Rattle.lists.specs.Lists.{from, upto}
 use Rattle.lists.proofs.Upto.{length-upto, getD-upto}
 use Rattle.map_state.specs.Network.{Network}

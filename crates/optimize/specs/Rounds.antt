@@ -4,7 +4,7 @@ use mathlib.Core.Bool.{Bool, true, false}
 use mathlib.Core.List.{List, [], _∷_}
 use lib.ListN.{length, getD}
 use lib.Ieee.{Float}
-use Rattle.rng.specs.Rng.{Shuffled, order}
+use Rattle.rng.specs.Rng.{order}
 use Rattle.lists.specs.Lists.{upto}
 use Rattle.map_state.specs.Network.{Network}
 use Rattle.map_state.specs.MapState.{MapState, applyMove}

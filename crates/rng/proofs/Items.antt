@@ -1,6 +1,6 @@
 -- What holds of every item of a list of numbers. Assumes nothing.
 use mathlib.Core.List.{List, [], _∷_}
-use Prim.Native.Nat.{ℕ, zero, suc, _<_}
+use Prim.Native.Nat.{ℕ, suc, _<_}
 use native.Mathlib.Omega.{arith}
 use lib.ListN.{length, getD}
 

@@ -1,15 +1,14 @@
 -- The order of visiting: how the loops go on, and that every item is a node. Assumes nothing.
-use mathlib.Core.Path.{_≡_, refl, sym, ap, _∙_}
-use mathlib.Core.List.{List, [], _∷_}
-use mathlib.Core.Logic.{_≢_}
-use Prim.Native.Nat.{ℕ, zero, suc, _+_, _-_, _*_, _%_, _<_, _≤_}
-use native.Mathlib.Nat.{mod-lt, zero-lt-suc, add-zero}
+use mathlib.Core.Path.{_≡_, refl, _∙_}
+use mathlib.Core.List.{List}
+use Prim.Native.Nat.{ℕ, zero, suc, _+_, _-_, _<_, _≤_}
+use native.Mathlib.Nat.{mod-lt, zero-lt-suc}
 use native.Mathlib.Decide.{ℕ-discrete}
 use native.Mathlib.Numerals.{add-one}
 use native.Mathlib.Omega.{arith}
 use lib.ListN.{length, getD, set, length-set}
-use lib.Seq.{getD-set-same, getD-set-other, ext-getD}
-use Rattle.rng.specs.Rng.{nextU64, genRange, swap, shuffleFrom, shuffle, Shuffled, Below}
+use lib.Seq.{getD-set-same, getD-set-other}
+use Rattle.rng.specs.Rng.{nextU64, genRange, swap, shuffleFrom, shuffle, Below}
 use Rattle.lists.specs.Lists.{from, upto}
 use Rattle.lists.proofs.Upto.{length-upto, getD-upto}
 
@@ -28,12 +27,6 @@ shuffle-end (suc i) x s h = absurd (omega arith)
 pub length-swap : (l : List ℕ) (i j : ℕ) → length (swap l i j) ≡ length l
 unfolding swap
 length-swap l i j = length-set (set l i (getD l j 0)) j (getD l i 0) ∙ length-set l i (getD l j 0)
-
-pub set-upto : (l : List ℕ) (i : ℕ) → i < length l → ((k : ℕ) → k < i → getD l k 0 ≡ k) → (k : ℕ) → k < i + 1 → getD (set l i i) k 0 ≡ k
-set-upto l i h f k p = go (ℕ-discrete k i) where
-  go : Dec (k ≡ i) → getD (set l i i) k 0 ≡ k
-  go (yes e) = rw (e, getD-set-same l i i 0 h)
-  go (no e) = getD-set-other l i k i 0 e ∙ f k (omega arith)
 
 -- ---- every item is below a bound
 set-below : (b : ℕ) (l : List ℕ) (i x : ℕ) → Below b l → x < b → Below b (set l i x)
@@ -80,6 +73,3 @@ order-length r n = from-length (length (upto n) - 1) r (upto n) ∙ length-upto 
 
 pub drawn-below : (r n : ℕ) (l : List ℕ) (x : ℕ) → shuffle r (upto n) ≡ record { list = l; rng = x } → Below n l
 drawn-below r n l x e = rw e at (order-below r n)
-
-pub drawn-length : (r n : ℕ) (l : List ℕ) (x : ℕ) → shuffle r (upto n) ≡ record { list = l; rng = x } → length l ≡ n
-drawn-length r n l x e = sym (ap (λ (s : Shuffled). length (s .list)) e) ∙ order-length r n

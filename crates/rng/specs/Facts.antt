@@ -1,6 +1,5 @@
 -- Document 01's facts on the generator, computed from the definition.
 use mathlib.Core.Path.{_≡_, refl}
-use Prim.Native.Nat.{ℕ}
 use Rattle.rng.specs.Rng.{nextU64, seeded}
 
 -- From state 1 the generator gives 1082269761.

@@ -1,5 +1,5 @@
 -- The generator of the trials (xorshift64) and the order of visiting, as `Rng64` of the Rust has them. Definitions only.
-use Prim.Native.Nat.{ℕ, zero, suc, _+_, _-_, _*_, _/_, _%_, _^_, _<_}
+use Prim.Native.Nat.{ℕ, zero, suc, _-_, _*_, _/_, _%_, _^_, _<_}
 use mathlib.Core.List.{List}
 use lib.Bits.{bitXor, bitOr}
 use lib.ListN.{length, getD, set}

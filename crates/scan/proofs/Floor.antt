@@ -1,9 +1,8 @@
--- A pass div64 a row, neighbour by neighbour. Assumes nothing.
-use mathlib.Core.Path.{_≡_, refl, sym, ap, _∙_}
-use mathlib.Core.Bool.{Bool, true, false, cond}
-use mathlib.Core.List.{List, [], _∷_}
-use mathlib.Core.Logic.{_≢_}
-use Prim.Native.Nat.{ℕ, zero, suc, _+_, _-_, _<_, _≤_}
+-- A pass over a row, neighbour by neighbour. Assumes nothing.
+use mathlib.Core.Path.{_≡_}
+use mathlib.Core.Bool.{true, false}
+use mathlib.Core.List.{List}
+use Prim.Native.Nat.{ℕ, _+_, _<_, _≤_}
 use native.Mathlib.Decide.{ℕ-discrete}
 use native.Mathlib.Nat.{le-refl}
 use native.Mathlib.Omega.{arith}
@@ -11,9 +10,7 @@ use lib.ListN.{length, getD}
 use lib.Ieee.{Float, nan, lt}
 use Rattle.float.specs.Binary64.{zero64}
 use Rattle.scan.specs.Scan.{Next}
-
-no-test : {A : Type 0} {b : Bool} → b ≡ true → b ≡ false → A
-no-test {A} {b} p q = let z : true ≡ false = sym p ∙ q in let o : _≡_ {A = ℕ} 0 1 = cc in absurd (omega arith)
+use Rattle.lists.proofs.Tests.{clash}
 
 module _ (part : List ℕ) (ws : List Float) (floor v r : ℕ) where
   abbrev Least : ℕ → ℕ → Type 0
@@ -26,7 +23,7 @@ module _ (part : List ℕ) (ws : List Float) (floor v r : ℕ) where
     go (no e) = old w (omega arith)
 
   pub next-far : Next part ws floor v r → lt zero64 (getD ws v nan) ≡ false → Next part ws floor (v + 1) r
-  next-far n t = record { end = n .end; near = n .near; up = n .up; least = more r (n .least) (λ p q. no-test p t) }
+  next-far n t = record { end = n .end; near = n .near; up = n .up; least = more r (n .least) (λ p q. clash _ p t) }
 
   pub next-low : Next part ws floor v r → getD part v 0 < floor → Next part ws floor (v + 1) r
   next-low n t = record { end = n .end; near = n .near; up = n .up; least = more r (n .least) (λ p q. absurd (omega arith)) }

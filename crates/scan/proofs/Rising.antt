@@ -1,23 +1,22 @@
 -- The candidates in rising order, taken one at a time as the lowest at or above a floor. Assumes nothing.
-use mathlib.Core.Path.{_≡_, refl, sym, ap, ap₂, _∙_}
+use mathlib.Core.Path.{_≡_, refl, ap₂, _∙_}
 use mathlib.Core.Bool.{Bool, true, false, cond}
 use mathlib.Core.List.{List, [], _∷_}
-use mathlib.Core.Logic.{_⊎_, inl, inr, _≢_}
-use Prim.Native.Nat.{ℕ, zero, suc, _+_, _-_, _<_, _≤_}
+use mathlib.Core.Logic.{inl, inr}
+use Prim.Native.Nat.{ℕ, zero, suc, _+_, _<_, _≤_}
 use native.Mathlib.Omega.{arith}
 use native.Mathlib.Numerals.{add-one}
-use native.Mathlib.Nat.{add-sub-cancel-left}
 use borrow.Author.Tests.{ltb-true, ltb-false, lt-ltb, le-ltb, eqb-true, eqb-false}
 use lib.Dec.{ltb, eqb}
-use lib.ListN.{length, getD, take, drop, drop-of-length-le, length-drop}
-use lib.Seq.{drop-cons, length-take-le}
+use lib.ListN.{length, getD, drop, drop-of-length-le}
+use lib.Seq.{drop-cons}
 use lib.Ieee.{Float, nan, lt}
 use Rattle.lists.specs.Lists.{Has}
 use Rattle.rng.proofs.Items.{All}
 use Rattle.float.specs.Binary64.{zero64}
 use Rattle.map_state.specs.Network.{Network, row}
 use Rattle.map_state.specs.MapState.{MapState, statsOf, deltaMove, deltaFrom}
-use Rattle.scan.specs.Scan.{place, candidates, consider, scanFrom, scan, Next, highestFrom, Answer, noMove, move}
+use Rattle.scan.specs.Scan.{place, candidates, consider, scanFrom, scan, Next, highestFrom, Answer, noMove}
 use Rattle.map_state.specs.declared.ModuleStats.{ModuleStats}
 
 abbrev Rising : ℕ → List ℕ → Type 0

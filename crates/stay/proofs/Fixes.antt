@@ -1,13 +1,13 @@
 -- The fixes that lists stand for, one by one, and their times. Assumes nothing.
 use mathlib.Core.Path.{_≡_, refl, sym, ap, ap₂, _∙_}
-use mathlib.Core.Bool.{Bool, true, false, _&&_, cond, false≢true}
+use mathlib.Core.Bool.{Bool, true, false, _&&_, cond}
 use mathlib.Core.List.{List, [], _∷_, _++_, map}
 use mathlib.Core.Option.{Option, none, some}
-use Prim.Native.Nat.{ℕ, zero, suc, _+_, _-_, _<_, _≤_}
+use Prim.Native.Nat.{ℕ, zero, suc, _+_, _-_, _<_}
 use native.Mathlib.Omega.{arith}
 use borrow.Author.Tests.{eqb-true}
 use lib.Dec.{eqb}
-use lib.ListN.{length, getD, length-append, length-map, List·getD-map, List·getD-append}
+use lib.ListN.{length, getD, length-append, length-map}
 use lib.Seq.{getD-at}
 use lib.Ieee.{Float, nan}
 use Rattle.lists.proofs.Tests.{and-left, and-right}
@@ -26,10 +26,6 @@ pointAt fs i = getD fs i noFix .at
 abbrev pub timeAt : List Fix → ℕ → Option Float
 timeAt fs i = getD fs i noFix .time
 
--- lists of one length
-abbrev Long : List Float → List Float → List Float → List ℕ → Type 0
-Long xs ys ts ms = (length ys ≡ length xs) × (length ts ≡ length xs) × (length ms ≡ length xs)
-
 pub fixes-length : (xs ys ts : List Float) (ms : List ℕ) → length ys ≡ length xs → length ts ≡ length xs → length ms ≡ length xs → length (fixes xs ys ts ms) ≡ length xs
 unfolding fixes
 fixes-length [] ys ts ms a b c = refl
@@ -47,6 +43,11 @@ fixes-at (x ∷ xs) (y ∷ ys) [] ms i a b c h = absurd (omega arith)
 fixes-at (x ∷ xs) (y ∷ ys) (t ∷ ts) [] i a b c h = absurd (omega arith)
 fixes-at (x ∷ xs) (y ∷ ys) (t ∷ ts) (m ∷ ms) zero a b c h = refl
 fixes-at (x ∷ xs) (y ∷ ys) (t ∷ ts) (m ∷ ms) (suc i) a b c h = fixes-at xs ys ts ms i (omega arith) (omega arith) (omega arith) (omega arith)
+
+-- the value beside a mark 0 does not matter
+pub time-unread : (t t' : Float) → timeOf 0 t ≡ timeOf 0 t'
+unfolding timeOf
+time-unread t t' = refl
 
 -- the trace is timed if all marks are 1
 has-time-of : (m : ℕ) (t : Float) → hasTime (timeOf m t) ≡ eqb m 1

@@ -1,16 +1,16 @@
 -- The groups of a trace: they are the trace, cut; and how they go on with the next fix. Assumes nothing.
-use mathlib.Core.Path.{_≡_, refl, sym, ap, ap₂, _∙_, subst}
+use mathlib.Core.Path.{_≡_, refl, sym, ap, _∙_, subst}
 use mathlib.Core.Bool.{Bool, true, false, cond}
-use mathlib.Core.List.{List, [], _∷_, _++_, map, append-assoc, append-nil}
-use mathlib.Core.Option.{Option, none, some}
-use Prim.Native.Nat.{ℕ, zero, suc, _+_, _-_, _<_, _≤_}
+use mathlib.Core.List.{List, [], _∷_, _++_, append-assoc}
+use Prim.Native.Nat.{ℕ, suc, _<_, _≤_}
+use native.Mathlib.Nat.{le-trans}
 use native.Mathlib.Omega.{arith}
-use lib.ListN.{length, getD, replicate, length-append, length-replicate}
+use lib.ListN.{length, length-append}
 use lib.Ieee.{Float}
 use Rattle.distance.specs.declared.Point.{Point}
 use Rattle.stay.specs.declared.StaySettings.{StaySettings}
 use Rattle.stay.specs.Trace.{Fix, timed}
-use Rattle.stay.specs.Stays.{joins, groupsFrom, groups, isStay, eventNumber, eventsFrom, eventMap, firstTime, lastTime}
+use Rattle.stay.specs.Stays.{middle, joins, groupsFrom, groups, isStay, mediansOf, stayMedians}
 
 -- the groups' fixes, one after the other
 abbrev pub concat : List (List Fix) → List Fix
@@ -44,3 +44,38 @@ module _ (dist : Point → Point → Float) (s : StaySettings) where
   unfolding groups
   concat-groups [] = refl
   concat-groups (f ∷ fs) = concat-from (timed (f ∷ fs)) (f ∷ []) fs
+
+  -- each group has a fix, so there are no more groups than fixes
+  groups-few-from : (t : Bool) (g fs : List Fix) → 0 < length g → length (groupsFrom dist s t g fs) ≤ length (concat (groupsFrom dist s t g fs))
+  groups-few-from t g [] h =
+      subst (λ (gs : List (List Fix)). length gs ≤ length (concat gs)) (sym (groups-end t g)) (simp length-append (omega arith))
+  groups-few-from t g (f ∷ fs) h =
+      go (joins dist s t g f) refl (groups-few-from t (g ++ (f ∷ [])) fs (simp length-append (omega arith))) (groups-few-from t (f ∷ []) fs (omega arith))
+    where
+      Few : List (List Fix) → Type 0
+      Few gs = length gs ≤ length (concat gs)
+
+      go : (b : Bool) → joins dist s t g f ≡ b → Few (groupsFrom dist s t (g ++ (f ∷ [])) fs) → Few (groupsFrom dist s t (f ∷ []) fs) → Few (groupsFrom dist s t g (f ∷ fs))
+      go true e a b = subst Few (sym (groups-join t g f fs e)) a
+      go false e a b = subst Few (sym (groups-close t g f fs e)) (simp length-append (omega arith))
+
+  groups-few-concat : (fs : List Fix) → length (groups dist s fs) ≤ length (concat (groups dist s fs))
+  unfolding groups
+  groups-few-concat [] = omega arith
+  groups-few-concat (f ∷ fs) = groups-few-from (timed (f ∷ fs)) (f ∷ []) fs (omega arith)
+
+  medians-of : (t : Bool) (gs : List (List Fix)) → length (mediansOf s t gs) ≤ length gs
+  unfolding mediansOf
+  medians-of t [] = omega arith
+  medians-of t (g ∷ gs) = go (isStay s t g) (medians-of t gs)
+    where
+      go : (b : Bool) → length (mediansOf s t gs) ≤ length gs → length (cond b (middle g ∷ mediansOf s t gs) (mediansOf s t gs)) ≤ suc (length gs)
+      go true h = omega arith
+      go false h = omega arith
+
+  pub groups-few : (fs : List Fix) → length (groups dist s fs) ≤ length fs
+  groups-few fs = subst (λ (n : ℕ). length (groups dist s fs) ≤ n) (ap length (concat-groups fs)) (groups-few-concat fs)
+
+  pub medians-few : (fs : List Fix) → length (stayMedians dist s fs) ≤ length fs
+  unfolding stayMedians
+  medians-few fs = le-trans (medians-of (timed fs) (groups dist s fs)) (groups-few fs)

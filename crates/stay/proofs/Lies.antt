@@ -3,9 +3,9 @@
 use mathlib.Core.Path.{_≡_, refl, sym, ap, ap₂, _∙_, subst}
 use mathlib.Core.Logic.{_⊎_, inl, inr}
 use mathlib.Core.Bool.{Bool, true, false, cond}
-use mathlib.Core.List.{List, [], _∷_, _++_, map, append-assoc}
+use mathlib.Core.List.{List, [], _∷_, _++_, map}
 use mathlib.Core.Option.{Option, none, some}
-use Prim.Native.Nat.{ℕ, zero, suc, _+_, _-_, _<_, _≤_}
+use Prim.Native.Nat.{ℕ, zero, suc, _+_, _-_, _<_}
 use native.Mathlib.Omega.{arith}
 use native.Mathlib.Nat.{add-zero}
 use lib.IntN.{ℤ, pos, negsuc}
@@ -61,54 +61,54 @@ module _ (dist : Point → Point → Float) (s : StaySettings) where
   module _ (t : Bool) where
     -- ---- one number a fix
 
-    events-length : (k : ℕ) (gs : List (List Fix)) → length (eventsFrom dist s t k gs) ≡ length (concat gs)
+    events-length : (k : ℕ) (gs : List (List Fix)) → length (eventsFrom s t k gs) ≡ length (concat gs)
     unfolding eventsFrom
     events-length k [] = refl
-    events-length k (g ∷ gs) = simp (length-append, length-replicate) (ap (λ (n : ℕ). length g + n) (events-length (cond (isStay dist s t g) (suc k) k) gs))
+    events-length k (g ∷ gs) = simp (length-append, length-replicate) (ap (λ (n : ℕ). length g + n) (events-length (cond (isStay s t g) (suc k) k) gs))
 
-    lies-length : (gs : List (List Fix)) → length (liesIn dist s t gs) ≡ length (concat gs)
+    lies-length : (gs : List (List Fix)) → length (liesIn s t gs) ≡ length (concat gs)
     unfolding liesIn
     lies-length [] = refl
     lies-length (g ∷ gs) = simp (length-append, length-replicate) (ap (λ (n : ℕ). length g + n) (lies-length gs))
 
     -- ---- a number is that of the median the fix lies at; `all` has the medians from place k on
 
-    events-lie : (k : ℕ) (gs : List (List Fix)) (all rest : List Point) → drop k all ≡ mediansOf dist s t gs ++ rest → map (medianAt all) (eventsFrom dist s t k gs) ≡ liesIn dist s t gs
+    events-lie : (k : ℕ) (gs : List (List Fix)) (all rest : List Point) → drop k all ≡ mediansOf s t gs ++ rest → map (medianAt all) (eventsFrom s t k gs) ≡ liesIn s t gs
     unfolding eventsFrom liesIn mediansOf eventNumber
     events-lie k [] all rest e = refl
     events-lie k (g ∷ gs) all rest e =
-        map-append (medianAt all) (replicate (length g) (eventNumber (isStay dist s t g) k)) (eventsFrom dist s t (cond (isStay dist s t g) (suc k) k) gs)
-        ∙ ap (λ (l : List (Option Point)). l ++ map (medianAt all) (eventsFrom dist s t (cond (isStay dist s t g) (suc k) k) gs)) (map-replicate (medianAt all) (length g) (eventNumber (isStay dist s t g) k))
-        ∙ go (isStay dist s t g) e (events-lie (suc k) gs all rest) (events-lie k gs all rest)
+        map-append (medianAt all) (replicate (length g) (eventNumber (isStay s t g) k)) (eventsFrom s t (cond (isStay s t g) (suc k) k) gs)
+        ∙ ap (λ (l : List (Option Point)). l ++ map (medianAt all) (eventsFrom s t (cond (isStay s t g) (suc k) k) gs)) (map-replicate (medianAt all) (length g) (eventNumber (isStay s t g) k))
+        ∙ go (isStay s t g) e (events-lie (suc k) gs all rest) (events-lie k gs all rest)
       where
-        go : (b : Bool) → drop k all ≡ cond b (middle g ∷ mediansOf dist s t gs) (mediansOf dist s t gs) ++ rest
-            → (drop (suc k) all ≡ mediansOf dist s t gs ++ rest → map (medianAt all) (eventsFrom dist s t (suc k) gs) ≡ liesIn dist s t gs)
-            → (drop k all ≡ mediansOf dist s t gs ++ rest → map (medianAt all) (eventsFrom dist s t k gs) ≡ liesIn dist s t gs)
-            → replicate (length g) (medianAt all (eventNumber b k)) ++ map (medianAt all) (eventsFrom dist s t (cond b (suc k) k) gs)
-            ≡ replicate (length g) (cond b (some (middle g)) none) ++ liesIn dist s t gs
+        go : (b : Bool) → drop k all ≡ cond b (middle g ∷ mediansOf s t gs) (mediansOf s t gs) ++ rest
+            → (drop (suc k) all ≡ mediansOf s t gs ++ rest → map (medianAt all) (eventsFrom s t (suc k) gs) ≡ liesIn s t gs)
+            → (drop k all ≡ mediansOf s t gs ++ rest → map (medianAt all) (eventsFrom s t k gs) ≡ liesIn s t gs)
+            → replicate (length g) (medianAt all (eventNumber b k)) ++ map (medianAt all) (eventsFrom s t (cond b (suc k) k) gs)
+            ≡ replicate (length g) (cond b (some (middle g)) none) ++ liesIn s t gs
         go true h a b =
-            ap₂ (λ (p : Point) (l : List (Option Point)). replicate (length g) (some p) ++ l) (at-first k all (mediansOf dist s t gs ++ rest) (middle g) noPoint h)
-            (a (after-first k all (mediansOf dist s t gs ++ rest) (middle g) h))
+            ap₂ (λ (p : Point) (l : List (Option Point)). replicate (length g) (some p) ++ l) (at-first k all (mediansOf s t gs ++ rest) (middle g) noPoint h)
+            (a (after-first k all (mediansOf s t gs ++ rest) (middle g) h))
         go false h a b = ap (λ (l : List (Option Point)). replicate (length g) none ++ l) (b h)
 
     -- ---- a number is -1 or that of a median
 
-    event-is : (k : ℕ) (gs : List (List Fix)) (i : ℕ) → Number (k + length (mediansOf dist s t gs)) (getD (eventsFrom dist s t k gs) i minusOne)
+    event-is : (k : ℕ) (gs : List (List Fix)) (i : ℕ) → Number (k + length (mediansOf s t gs)) (getD (eventsFrom s t k gs) i minusOne)
     unfolding eventsFrom mediansOf eventNumber
     event-is k [] i = inl refl
-    event-is k (g ∷ gs) i = go (isStay dist s t g) (event-is (suc k) gs) (event-is k gs)
+    event-is k (g ∷ gs) i = go (isStay s t g) (event-is (suc k) gs) (event-is k gs)
       where
-        more : suc k + length (mediansOf dist s t gs) ≡ k + suc (length (mediansOf dist s t gs))
+        more : suc k + length (mediansOf s t gs) ≡ k + suc (length (mediansOf s t gs))
         more = omega arith
 
-        go : (b : Bool) → ((j : ℕ) → Number (suc k + length (mediansOf dist s t gs)) (getD (eventsFrom dist s t (suc k) gs) j minusOne))
-            → ((j : ℕ) → Number (k + length (mediansOf dist s t gs)) (getD (eventsFrom dist s t k gs) j minusOne))
-            → Number (k + length (cond b (middle g ∷ mediansOf dist s t gs) (mediansOf dist s t gs)))
-            (getD (replicate (length g) (eventNumber b k) ++ eventsFrom dist s t (cond b (suc k) k) gs) i minusOne)
+        go : (b : Bool) → ((j : ℕ) → Number (suc k + length (mediansOf s t gs)) (getD (eventsFrom s t (suc k) gs) j minusOne))
+            → ((j : ℕ) → Number (k + length (mediansOf s t gs)) (getD (eventsFrom s t k gs) j minusOne))
+            → Number (k + length (cond b (middle g ∷ mediansOf s t gs) (mediansOf s t gs)))
+            (getD (replicate (length g) (eventNumber b k) ++ eventsFrom s t (cond b (suc k) k) gs) i minusOne)
         go true a b =
-            in-run (length g) (pos k) (eventsFrom dist s t (suc k) gs) (k + suc (length (mediansOf dist s t gs))) i (inr (k, refl, omega arith))
-            (λ j. subst (λ (m : ℕ). Number m (getD (eventsFrom dist s t (suc k) gs) j minusOne)) more (a j))
-        go false a b = in-run (length g) minusOne (eventsFrom dist s t k gs) (k + length (mediansOf dist s t gs)) i (inl refl) b
+            in-run (length g) (pos k) (eventsFrom s t (suc k) gs) (k + suc (length (mediansOf s t gs))) i (inr (k, refl, omega arith))
+            (λ j. subst (λ (m : ℕ). Number m (getD (eventsFrom s t (suc k) gs) j minusOne)) more (a j))
+        go false a b = in-run (length g) minusOne (eventsFrom s t k gs) (k + length (mediansOf s t gs)) i (inl refl) b
 
   -- ---- a trace
 

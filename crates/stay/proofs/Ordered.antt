@@ -1,18 +1,15 @@
 -- Ordered insertion: a list in order stays in order, and in such a list the place of an element can be found by halving. Assumes nothing.
 use mathlib.Core.Path.{_≡_, refl, sym, ap, ap₂, _∙_, subst}
-use mathlib.Core.Bool.{Bool, true, false, _&&_, _||_, cond, true≢false}
+use mathlib.Core.Bool.{Bool, true, false, _&&_, cond, true≢false}
 use mathlib.Core.List.{List, [], _∷_, _++_}
 use Prim.Native.Nat.{ℕ, zero, suc, _+_, _-_, _≤_, _<_}
 use native.Mathlib.Nat.{le-of-suc-le-suc}
 use native.Mathlib.Omega.{arith}
-use native.Mathlib.Numerals.{add-one}
 use lib.ListN.{length, take, drop, getD, length-append, take-append-drop}
-use lib.Seq.{length-take-le, take-take, take-at}
-use lib.Ieee.{Float, nan, inf, fin, isNan, le, ne, eq, add, mul, ofBits}
+use lib.Ieee.{Float, nan, inf, fin, isNan, ne, eq, add, mul, ofBits}
 use lib.Ieee.Compare.{differs-from-itself}
 use Rattle.lists.proofs.Tests.{and-left, and-right}
 use Rattle.stay.specs.Ordered.{atMost, atMostFirst, inOrder, position, insertOrdered, orderedFrom, ordered, median}
-use Rattle.stay.specs.Regions.{shifted, insertIn}
 use Rattle.stay.proofs.AtMost.{nan-above, atMost-trans, atMost-other}
 
 -- ---- what stands where
@@ -32,7 +29,7 @@ insert-length e l =
     let q : length (take (position e l) l ++ drop (position e l) l) ≡ length l = ap length (take-append-drop (position e l) l) in
     simp length-append (omega (arith, simp length-append at q))
 
-insert-cons : (e x : Float) (xs : List Float) → insertOrdered e (x ∷ xs) ≡ cond (atMost x e) (x ∷ insertOrdered e xs) (e ∷ x ∷ xs)
+pub insert-cons : (e x : Float) (xs : List Float) → insertOrdered e (x ∷ xs) ≡ cond (atMost x e) (x ∷ insertOrdered e xs) (e ∷ x ∷ xs)
 unfolding insertOrdered position
 insert-cons e x xs = go (atMost x e)
   where

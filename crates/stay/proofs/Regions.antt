@@ -1,11 +1,10 @@
 -- The parts of the work slice: what an insertion into the first two, and a store into one part, leave of each. Assumes nothing.
-use mathlib.Core.Path.{_≡_, refl, sym, ap, _∙_}
-use mathlib.Core.List.{List, [], _∷_, _++_, append-assoc}
-use Prim.Native.Nat.{ℕ, zero, suc, _+_, _-_, _≤_, _<_}
-use native.Mathlib.Nat.{add-sub-cancel-left, sub-zero}
+use mathlib.Core.Path.{_≡_, sym, ap, _∙_}
+use mathlib.Core.List.{List, [], _++_, append-assoc}
+use Prim.Native.Nat.{ℕ, _+_, _-_, _≤_, _<_}
 use native.Mathlib.Omega.{arith}
-use lib.ListN.{length, take, drop, set, length-append, length-drop, length-set}
-use lib.Seq.{length-take-le, take-at, drop-at, drop-drop, take-take, take-append-le, take-set-le, take-set-lt, drop-set-lt, drop-set-add}
+use lib.ListN.{length, take, drop, set, length-append, length-drop}
+use lib.Seq.{sets, sets-eq, length-take-le, take-at, drop-at, drop-drop, take-take, take-append-le, take-set-le, take-set-lt, drop-set-lt, drop-set-add}
 use lib.Ieee.{Float}
 use Rattle.stay.specs.Ordered.{insertOrdered}
 use Rattle.stay.specs.Regions.{part, put, insertIn, insertBoth}
@@ -54,6 +53,12 @@ module _ {A : Type 0} where
 
   pub part-set-below : (a n j : ℕ) (v : A) (w : List A) → j < a → part a n (set w j v) ≡ part a n w
   part-set-below a n j v w h = ap (take n) (drop-set-lt a w j v h)
+
+  -- what stands before the end of a run of stores
+  pub take-sets : (l : List A) (k : ℕ) (ps : List A) → k + length ps ≤ length l → take (k + length ps) (sets l k ps) ≡ take k l ++ ps
+  take-sets l k ps h =
+      ap (take (k + length ps)) (sets-eq ps l k h)
+      ∙ take-at (take k l ++ ps) (drop (k + length ps) l) (k + length ps) (simp length-append (omega (arith, length-take-le k l (omega arith))))
 
 -- the elements in order of a part after one insertion
 pub grown : (i : ℕ) (e : Float) (r : List Float) → i < length r → take (i + 1) (insertIn i e r) ≡ insertOrdered e (take i r)

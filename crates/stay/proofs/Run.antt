@@ -1,20 +1,19 @@
 -- The run of the steps over a trace ends in the state that the definition of stays gives. Assumes nothing.
 use mathlib.Core.Path.{_≡_, refl, sym, ap, ap₂, _∙_, subst}
-use mathlib.Core.Bool.{Bool, true, false, not, _&&_, _||_, cond}
+use mathlib.Core.Bool.{Bool, true, false, not, _&&_, _||_}
 use mathlib.Core.List.{List, [], _∷_, _++_, map, append-assoc, append-nil}
-use mathlib.Core.Option.{Option, none, some}
+use mathlib.Core.Option.{Option, some}
 use Prim.Native.Nat.{ℕ, zero, suc, _+_, _-_, _<_, _≤_}
 use native.Mathlib.Nat.{add-zero}
 use native.Mathlib.Numerals.{add-one}
 use native.Mathlib.Omega.{arith}
 use lib.Dec.{leb}
-use lib.IntN.{ℤ}
-use lib.ListN.{length, getD, set, drop, replicate, length-append, drop-of-length-le}
+use lib.ListN.{length, getD, drop, replicate, length-append, drop-of-length-le}
 use lib.Seq.{sets, drop-cons}
 use lib.Ieee.{Float, nan, le}
 use Rattle.distance.specs.declared.Point.{Point}
 use Rattle.stay.specs.declared.StaySettings.{StaySettings}
-use Rattle.stay.specs.Ordered.{ordered, orderedFrom, insertOrdered, median}
+use Rattle.stay.specs.Ordered.{ordered, insertOrdered, median}
 use Rattle.stay.specs.Trace.{Fix}
 use Rattle.stay.specs.Stays.{middle, since, firstTime, lastTime, joins, isStay, groupsFrom, mediansOf, eventNumber, eventsFrom}
 use Rattle.stay.specs.Steps.{State, midOf, taken, kept, closed, step, joinTest, stayTest, elapsed}
@@ -46,10 +45,10 @@ module _ (dist : Point → Point → Float) (s : StaySettings) (t : Bool) (ts : 
 
   -- from the state st on, the groups gs are closed, and then the state is fin
   pub record Ends (st fin : State) (gs : List (List Fix)) : Type 0 where
-    pub stays : fin .stays ≡ st .stays + length (mediansOf dist s t gs)
-    pub events : fin .events ≡ st .events ++ eventsFrom dist s t (st .stays) gs
-    pub mx : fin .mx ≡ sets (st .mx) (st .stays) (map px (mediansOf dist s t gs))
-    pub my : fin .my ≡ sets (st .my) (st .stays) (map py (mediansOf dist s t gs))
+    pub stays : fin .stays ≡ st .stays + length (mediansOf s t gs)
+    pub events : fin .events ≡ st .events ++ eventsFrom s t (st .stays) gs
+    pub mx : fin .mx ≡ sets (st .mx) (st .stays) (map px (mediansOf s t gs))
+    pub my : fin .my ≡ sets (st .my) (st .stays) (map py (mediansOf s t gs))
 
   ends-none : (st : State) → Ends st st []
   unfolding mediansOf eventsFrom
@@ -61,20 +60,20 @@ module _ (dist : Point → Point → Float) (s : StaySettings) (t : Bool) (ts : 
 
   -- ---- closing a group
 
-  ends-kept : (i : ℕ) (st fin : State) (g : List Fix) (gs : List (List Fix)) (ok : Bool) (m : Point) → isStay dist s t g ≡ ok → middle g ≡ m → length g ≡ i - st .start
+  ends-kept : (i : ℕ) (st fin : State) (g : List Fix) (gs : List (List Fix)) (ok : Bool) (m : Point) → isStay s t g ≡ ok → middle g ≡ m → length g ≡ i - st .start
       → Ends (kept ok m i st) fin gs → Ends st fin (g ∷ gs)
   unfolding kept mediansOf eventsFrom
   ends-kept i st fin g gs true m p q n e =
       record {
-        stays = e .stays ∙ (rw p (let z : st .stays + 1 + length (mediansOf dist s t gs) ≡ st .stays + suc (length (mediansOf dist s t gs)) = omega arith in z));
-        events = e .events ∙ rw (p, n, add-one (st .stays)) (append-assoc (st .events) (replicate (i - st .start) (eventNumber true (st .stays))) (eventsFrom dist s t (suc (st .stays)) gs));
+        stays = e .stays ∙ (rw p (let z : st .stays + 1 + length (mediansOf s t gs) ≡ st .stays + suc (length (mediansOf s t gs)) = omega arith in z));
+        events = e .events ∙ rw (p, n, add-one (st .stays)) (append-assoc (st .events) (replicate (i - st .start) (eventNumber true (st .stays))) (eventsFrom s t (suc (st .stays)) gs));
         mx = e .mx ∙ rw (p, ← q, add-one (st .stays));
         my = e .my ∙ rw (p, ← q, add-one (st .stays));
       }
   ends-kept i st fin g gs false m p q n e =
       record {
         stays = e .stays ∙ rw p;
-        events = e .events ∙ rw (p, n) (append-assoc (st .events) (replicate (i - st .start) (eventNumber false (st .stays))) (eventsFrom dist s t (st .stays) gs));
+        events = e .events ∙ rw (p, n) (append-assoc (st .events) (replicate (i - st .start) (eventNumber false (st .stays))) (eventsFrom s t (st .stays) gs));
         mx = e .mx ∙ rw p;
         my = e .my ∙ rw p;
       }
@@ -100,7 +99,7 @@ module _ (dist : Point → Point → Float) (s : StaySettings) (t : Bool) (ts : 
             (sym (since-elapsed e (i - 1) i (omega (arith, h .before)) l) ∙ ap (λ (o : Option Float). since o (timeAt fs i)) (sym (h .last)))
         go false e = refl
 
-    stay-is : (i : ℕ) (st : State) (g : List Fix) → Holds i st g → i ≤ length fs → stayTest t s (i - st .start) (elapsed t ts (st .start) (i - 1)) ≡ isStay dist s t g
+    stay-is : (i : ℕ) (st : State) (g : List Fix) → Holds i st g → i ≤ length fs → stayTest t s (i - st .start) (elapsed t ts (st .start) (i - 1)) ≡ isStay s t g
     unfolding stayTest isStay
     stay-is i st g h l = ap₂ _&&_ (ap (leb (s .«min_size»)) (sym (h .size))) (go t refl)
       where

@@ -1,19 +1,18 @@
 -- The state that the slices stand for, after each step of the code. Assumes nothing.
 use mathlib.Core.Path.{_≡_, refl, sym, ap, _∙_}
-use mathlib.Core.Bool.{Bool, true, false, cond}
-use mathlib.Core.List.{List, [], _∷_, _++_, append-assoc}
-use Prim.Native.Nat.{ℕ, zero, suc, _+_, _-_, _*_, _^_, _<_, _≤_}
+use mathlib.Core.Bool.{Bool, true, false}
+use mathlib.Core.List.{List, [], _++_, append-assoc}
+use Prim.Native.Nat.{ℕ, _+_, _-_, _*_, _<_, _≤_}
 use native.Mathlib.Nat.{sub-self}
 use native.Mathlib.Omega.{arith}
 use lib.IntN.{ℤ, pos, negsuc}
-use lib.ListN.{length, drop, take, set, replicate, length-append, length-replicate, length-set}
+use lib.ListN.{length, drop, take, set, replicate, length-append, length-replicate}
 use lib.Seq.{take-at, length-take-le}
 use lib.Ieee.{Float}
 use Rattle.distance.specs.declared.Point.{Point}
 use Rattle.stay.specs.declared.StaySettings.{StaySettings}
 use Rattle.stay.specs.declared.Open.{Open}
-use Rattle.stay.specs.Ordered.{insertOrdered}
-use Rattle.stay.specs.Regions.{part, insertBoth, middleIn}
+use Rattle.stay.specs.Regions.{insertBoth, middleIn}
 use Rattle.stay.specs.Stays.{eventNumber}
 use Rattle.stay.specs.Steps.{State, stateOf, midOf, taken, kept, closed, step, joinTest, elapsed, Room}
 use Rattle.stay.proofs.Regions.{part-set, part-set-above, part-set-below, grown-x, grown-y, both-above}

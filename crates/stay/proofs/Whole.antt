@@ -1,9 +1,8 @@
 -- A whole trace: what the run is sound for at each fix, and what it has found at the end. Assumes nothing.
 use mathlib.Core.Path.{_≡_, refl, sym, ap, ap₂, _∙_, subst}
 use mathlib.Core.Bool.{Bool, true, false, cond}
-use mathlib.Core.List.{List, [], _∷_, _++_, map}
-use mathlib.Core.Option.{Option, none, some}
-use Prim.Native.Nat.{ℕ, zero, suc, _+_, _-_, _*_, _/_, _<_, _≤_}
+use mathlib.Core.List.{List, [], _∷_, map}
+use Prim.Native.Nat.{ℕ, suc, _+_, _-_, _*_, _/_, _<_, _≤_}
 use native.Mathlib.Numerals.{add-one}
 use native.Mathlib.Omega.{arith}
 use lib.IntN.{ℤ}
@@ -14,7 +13,7 @@ use Rattle.distance.specs.declared.Point.{Point}
 use Rattle.distance.specs.Distance.{euclidean}
 use Rattle.stay.specs.declared.StaySettings.{StaySettings}
 use Rattle.stay.specs.declared.Open.{Open}
-use Rattle.stay.specs.Ordered.{inOrder, insertOrdered, ordered}
+use Rattle.stay.specs.Ordered.{inOrder, ordered}
 use Rattle.stay.specs.Regions.{part, insertBoth}
 use Rattle.stay.specs.Trace.{Fix, fixes, timed}
 use Rattle.stay.specs.Stays.{groupsFrom, groups, firstTime, lastTime, stayMedians, eventMap, mediansOf, eventsFrom}
@@ -23,7 +22,7 @@ use Rattle.stay.specs.Found.{Found}
 use Rattle.stay.proofs.Ordered.{insert-in-order}
 use Rattle.stay.proofs.Regions.{both-above}
 use Rattle.stay.proofs.States.{grown-state}
-use Rattle.stay.proofs.Fixes.{noFix, pointAt, timeAt, fixes-length, fixes-at, timed-marked, time-at}
+use Rattle.stay.proofs.Fixes.{noFix, pointAt, fixes-length, fixes-at, timed-marked, time-at}
 use Rattle.stay.proofs.Run.{px, py, run, Holds, Ends, ends}
 
 -- ---- at each fix
@@ -141,7 +140,7 @@ module _ (s : StaySettings) (xs ys ts : List Float) (ms : List ℕ) (ly : length
     abbrev pub Last : List Float → List ℤ → Open → Type 0
     Last v e o = stateOf q (length xs) v e o ≡ closed s t ts (length xs) (run euclidean s t ts fs 1 (length xs - 1) first-state)
 
-    stays-are : (v : List Float) (e : List ℤ) (o : Open) → Last v e o → o .stays ≡ found + length (mediansOf euclidean s t (groups euclidean s fs))
+    stays-are : (v : List Float) (e : List ℤ) (o : Open) → Last v e o → o .stays ≡ found + length (mediansOf s t (groups euclidean s fs))
     unfolding stateOf
     stays-are v e o st = ap (λ (z : State). z .stays) st ∙ all-ends .stays
 
@@ -153,17 +152,17 @@ module _ (s : StaySettings) (xs ys ts : List Float) (ms : List ℕ) (ly : length
     above b ps h = ap (λ (r : List Float). sets (take q r) found ps) (both-above q 0 (getD xs 0 nan) (getD ys 0 nan) w (omega arith) some-room b h)
 
     -- what the last state says is found
-    pub whole : (v : List Float) (e : List ℤ) (o : Open) → q ≡ length w / 4 → length e ≡ length xs → Last v e o → Found s fs found w v e (o .stays - found)
+    pub whole : (v : List Float) (e : List ℤ) (o : Open) → q ≡ length w / 4 → length v ≡ length w → length e ≡ length xs → Last v e o → Found s fs found w v e (o .stays - found)
     unfolding stateOf closed kept stayMedians eventMap
-    whole v e o qe le st =
+    whole v e o qe lv le st =
         let timing : timed fs ≡ t = sym (timed-marked xs ys ts ms ly lt lm) in
         let start : o .start ≡ length xs = ap (λ (z : State). z .start) st in
-        let ps = mediansOf euclidean s t (groups euclidean s fs) in
+        let ps = mediansOf s t (groups euclidean s fs) in
         record {
           count = rw timing (omega (arith, stays-are v e o st));
           numbered = rw timing (sym (take-all (o .start) e (omega (arith, start, le))) ∙ ap (λ (z : State). z .events) st ∙ all-ends .events);
-          medians-x = rw (← qe, timing) (ap (λ (z : State). z .mx) st ∙ all-ends .mx ∙ above (2 * q) (map px ps) (omega arith));
-          medians-y = rw (← qe, timing) (ap (λ (z : State). z .my) st ∙ all-ends .my ∙ above (3 * q) (map py ps) (omega arith));
+          medians-x = rw (lv, ← qe, timing) (ap (λ (z : State). z .mx) st ∙ all-ends .mx ∙ above (2 * q) (map px ps) (omega arith));
+          medians-y = rw (lv, ← qe, timing) (ap (λ (z : State). z .my) st ∙ all-ends .my ∙ above (3 * q) (map py ps) (omega arith));
         }
 
 -- a trace without a fix

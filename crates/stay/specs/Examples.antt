@@ -6,7 +6,6 @@ use Prim.Native.Nat.{ℕ}
 use lib.IntN.{ℤ, pos, negsuc}
 use lib.Ieee.{Float, binary64, ofInt, ofBits}
 use Rattle.float.specs.Binary64.{whole64}
-use Rattle.distance.specs.declared.Point.{Point}
 use Rattle.distance.specs.Distance.{euclidean}
 use Rattle.stay.specs.declared.StaySettings.{StaySettings}
 use Rattle.stay.specs.Ordered.{ordered, median}
@@ -14,7 +13,7 @@ use Rattle.stay.specs.Trace.{Fix}
 use Rattle.stay.specs.Stays.{eventMap, stayMedians}
 
 -- the median of 1, 2, 3, 10 is 2.5
-median-2-5 : median (whole64 1 ∷ whole64 2 ∷ whole64 3 ∷ whole64 10 ∷ []) ≡ ofBits binary64 0x4004_0000_0000_0000
+pub median-2-5 : median (whole64 1 ∷ whole64 2 ∷ whole64 3 ∷ whole64 10 ∷ []) ≡ ofBits binary64 0x4004_0000_0000_0000
 unfolding median ofInt ofBits
 median-2-5 = refl
 

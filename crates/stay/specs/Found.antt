@@ -22,10 +22,14 @@ pub record Lengths (n ys times marks events work found : ℕ) : Type 0 where
   pub room : 4 * (found + n) ≤ work
   pub numbers : found + n < 2 ^ 31
 
--- Of the trace fs: the number of its stays, the stay number of each fix, counted from `found`, and its medians, written behind the first
--- `found` of the third and fourth quarter of the work slice. What those quarters hold otherwise is as it was; the first two are free.
+-- The k-th quarter of a work slice, from 0.
+abbrev pub quarter : ℕ → List Float → List Float
+quarter k w = part (k * (length w / 4)) (length w / 4) w
+
+-- Of the trace fs: the number of its stays; the stay number of each fix, counted from `found`; and its medians, written from place `found` on
+-- into quarters 2 (x) and 3 (y) of the work slice, which are otherwise as they were. Quarters 0 and 1 are free.
 pub record Found (s : StaySettings) (fs : List Fix) (found : ℕ) (w v : List Float) (events : List ℤ) (r : ℕ) : Type 0 where
   pub count : r ≡ length (stayMedians euclidean s fs)
   pub numbered : events ≡ eventMap euclidean s found fs
-  pub medians-x : part (2 * (length w / 4)) (length w / 4) v ≡ sets (part (2 * (length w / 4)) (length w / 4) w) found (map (λ (p : Point). p .x) (stayMedians euclidean s fs))
-  pub medians-y : part (3 * (length w / 4)) (length w / 4) v ≡ sets (part (3 * (length w / 4)) (length w / 4) w) found (map (λ (p : Point). p .y) (stayMedians euclidean s fs))
+  pub medians-x : quarter 2 v ≡ sets (quarter 2 w) found (map (λ (p : Point). p .x) (stayMedians euclidean s fs))
+  pub medians-y : quarter 3 v ≡ sets (quarter 3 w) found (map (λ (p : Point). p .y) (stayMedians euclidean s fs))

@@ -1,10 +1,9 @@
 -- A work slice of four parts of equal length q: the open group's x and y in order, and the medians' x and y. Definitions only.
-use Prim.Native.Nat.{ℕ, zero, suc, _+_, _*_, _/_, _≤_, _<_, _^_}
+use Prim.Native.Nat.{ℕ, _+_, _≤_, _<_}
 use mathlib.Core.Path.{_≡_}
 use mathlib.Core.List.{List, [], _∷_, _++_}
-use lib.ListN.{length, take, drop, set}
+use lib.ListN.{length, take, drop}
 use lib.Ieee.{Float}
-use lib.IntN.{ℤ}
 use mathlib.Core.Bool.{true}
 use Rattle.distance.specs.declared.Point.{Point}
 use Rattle.stay.specs.Ordered.{insertOrdered, inOrder, median}
@@ -36,7 +35,7 @@ unfoldable pub middleIn : ℕ → ℕ → List Float → Point
 middleIn q len w = record { x = median (take len (part 0 q w)); y = median (take len (part q q w)) }
 
 -- There is room for one more, and what is there is in order.
-pub record Both (q len : ℕ) (w : List Float) : Type 0 where
+pub record CanInsert (q len : ℕ) (w : List Float) : Type 0 where
   pub more : len < q
   pub fits : q + q ≤ length w
   pub x-order : inOrder (take len (part 0 q w)) ≡ true

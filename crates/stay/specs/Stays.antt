@@ -1,5 +1,5 @@
 -- Document 01, "Stays": the groups of a trace, which of them are stays, and their medians. Definitions only.
-use Prim.Native.Nat.{ℕ, zero, suc, _-_}
+use Prim.Native.Nat.{ℕ, suc, _-_}
 use mathlib.Core.Bool.{Bool, true, false, not, _&&_, _||_, cond}
 use mathlib.Core.List.{List, [], _∷_, _++_, map}
 use mathlib.Core.Option.{Option, none, some}
@@ -44,11 +44,6 @@ module _ (dist : Point → Point → Float) (s : StaySettings) where
   unfolding le middle since lastTime
   joins t g f = le (dist (f .at) (middle g)) (s .r1) && (not t || le (since (lastTime g) (f .time)) (s .«max_time_between»))
 
-  -- "A closed group is a stay if it has at least min_size fixes and, when timed, last less first time is >= min_staying_time."
-  unfoldable pub isStay : Bool → List Fix → Bool
-  unfolding le since firstTime lastTime
-  isStay t g = leb (s .«min_size») (length g) && (not t || le (s .«min_staying_time») (since (firstTime g) (lastTime g)))
-
   -- "A fix that doesn't join closes the group and opens the next; the trace's end closes the last": the open group, then the fixes to come.
   unfoldable pub groupsFrom : Bool → List Fix → List Fix → List (List Fix)
   unfolding joins
@@ -60,6 +55,13 @@ module _ (dist : Point → Point → Float) (s : StaySettings) where
   unfolding groupsFrom timed
   groups [] = []
   groups (f ∷ fs) = groupsFrom (timed (f ∷ fs)) (f ∷ []) fs
+
+-- Which of the groups are stays.
+module _ (s : StaySettings) where
+  -- "A closed group is a stay if it has at least min_size fixes and, when timed, last less first time is >= min_staying_time."
+  unfoldable pub isStay : Bool → List Fix → Bool
+  unfolding le since firstTime lastTime
+  isStay t g = leb (s .«min_size») (length g) && (not t || le (s .«min_staying_time») (since (firstTime g) (lastTime g)))
 
   -- The medians of those that are stays.
   unfoldable pub mediansOf : Bool → List (List Fix) → List Point
@@ -79,15 +81,16 @@ module _ (dist : Point → Point → Float) (s : StaySettings) where
   liesIn t [] = []
   liesIn t (g ∷ gs) = replicate (length g) (cond (isStay t g) (some (middle g)) none) ++ liesIn t gs
 
+module _ (dist : Point → Point → Float) (s : StaySettings) where
   -- Of one trace: the medians of its accepted stays, in order; its fixes' stay numbers, counted from k; where its fixes lie.
   unfoldable pub stayMedians : List Fix → List Point
   unfolding groups mediansOf
-  stayMedians fs = mediansOf (timed fs) (groups fs)
+  stayMedians fs = mediansOf s (timed fs) (groups dist s fs)
 
   unfoldable pub eventMap : ℕ → List Fix → List ℤ
   unfolding groups eventsFrom
-  eventMap k fs = eventsFrom (timed fs) k (groups fs)
+  eventMap k fs = eventsFrom s (timed fs) k (groups dist s fs)
 
   unfoldable pub lies : List Fix → List (Option Point)
   unfolding groups liesIn
-  lies fs = liesIn (timed fs) (groups fs)
+  lies fs = liesIn s (timed fs) (groups dist s fs)

@@ -1,20 +1,19 @@
 -- What the steps of `stays` ensure: the state that its slices stand for, and what each step makes of it. Definitions only.
-use Prim.Native.Nat.{ℕ, zero, suc, _+_, _-_, _*_, _/_, _≤_, _<_, _^_}
+use Prim.Native.Nat.{ℕ, _+_, _-_, _*_, _≤_, _<_, _^_}
 use mathlib.Core.Path.{_≡_}
-use mathlib.Core.Bool.{Bool, true, false, not, _&&_, _||_, cond}
-use mathlib.Core.List.{List, [], _∷_, _++_, map}
+use mathlib.Core.Bool.{Bool, true, not, _&&_, _||_, cond}
+use mathlib.Core.List.{List, [], _∷_, _++_}
 use lib.Dec.{leb, eqb}
 use lib.IntN.{ℤ}
-use lib.ListN.{length, take, drop, set, getD, replicate}
-use lib.Ieee.{Float, nan, le, sub}
+use lib.ListN.{length, take, set, getD, replicate}
+use lib.Ieee.{Float, nan, le}
 use Rattle.float.specs.Binary64.{sub64, zero64}
 use Rattle.distance.specs.declared.Point.{Point}
 use Rattle.stay.specs.declared.StaySettings.{StaySettings}
 use Rattle.stay.specs.declared.Open.{Open}
 use Rattle.stay.specs.Ordered.{insertOrdered, median, inOrder}
 use Rattle.stay.specs.Regions.{part}
-use Rattle.stay.specs.Stays.{eventNumber, stayMedians, eventMap}
-use Rattle.stay.specs.Trace.{Fix, fixes}
+use Rattle.stay.specs.Stays.{eventNumber}
 
 -- Whether all marks are 1.
 unfoldable pub allMarked : List ℕ → Bool

@@ -3,11 +3,11 @@ use distance::Point;
 ghost use mathlib.Core.Path.{_≡_};
 ghost use mathlib.Core.Bool.{true};
 ghost use mathlib.Core.List.{_++_};
-ghost use Prim.Native.Nat.{_+_, _-_, _*_, _/_, _^_, _<_, _≤_};
+ghost use Prim.Native.Nat.{_+_, _<_, _≤_};
 ghost use lib.ListN.{length, take, drop, replicate};
 ghost use Rattle.distance.specs.Distance.{euclidean};
 ghost use Rattle.stay.specs.Ordered.{inOrder, position, insertOrdered, median};
-ghost use Rattle.stay.specs.Regions.{part, shifted, insertBoth, middleIn, Both};
+ghost use Rattle.stay.specs.Regions.{shifted, insertBoth, middleIn, CanInsert};
 ghost use Rattle.stay.specs.Trace.{fixes};
 ghost use Rattle.stay.specs.Steps.{allMarked, elapsed, joinTest, stayTest, stateOf, kept, closed, step, Room, Ready};
 ghost use Rattle.stay.specs.Found.{Lengths, Found};
@@ -86,7 +86,7 @@ pub fn median(s: &[f64]) -> f64
 
 // p into the first len elements of the first two parts of the work slice, which are of length q.
 fn insert_both(work: &mut [f64], q: usize, len: usize, p: Point)
-    requires { ⌜ Both q len (now work) ⌝ }
+    requires { ⌜ CanInsert q len (now work) ⌝ }
     ensures { λ _. ⌜ now (work .exit) ≡ insertBoth q len (p .x) (p .y) (now (work .entry)) ⌝ }
 {
     let x = p.x;

@@ -3,3 +3,4 @@ pub mod WholeMoves
 pub mod Afresh
 pub mod Carried
 pub mod Renumbered
+pub mod WholeNetwork

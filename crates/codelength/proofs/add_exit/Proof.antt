@@ -1,10 +1,8 @@
+-- `codelength::add_exit` meets its contract. Assumes nothing.
 use borrow.Author.Tests.{eq-eqb, ne-eqb}
 use Rattle.codelength.specs.Codelength.{addExit}
-use borrow.Author.Needs.{needs}
 use Rattle.codelength.proofs.add_exit.Statement.{statement}
 use Rattle.codelength.proofs.add_exit.Tie as tie
-use Rattle.codelength.proofs.add_exit.Reads as reads
-use Rattle.codelength.proofs.add_exit.Lts as lts
 
 returns : tie.Need-returns
 unfolding addExit

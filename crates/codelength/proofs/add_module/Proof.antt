@@ -1,11 +1,8 @@
-use mathlib.Core.Path.{_≡_, refl, sym, _∙_}
+-- `codelength::add_module` meets its contract. Assumes nothing.
 use Rattle.codelength.specs.Codelength.{addModule}
 use borrow.Author.Needs.{needs}
 use Rattle.codelength.proofs.add_module.Statement.{statement}
 use Rattle.codelength.proofs.add_module.Tie as tie
-use Rattle.codelength.proofs.add_module.Reads as reads
-use Rattle.codelength.proofs.add_module.Lts as lts
-use Rattle.float.proofs.plogp.Reads as plogp-reads
 
 plogp-requires : tie.Need-plogp-requires
 plogp-requires c κs = search needs
@@ -18,7 +15,10 @@ plogp-requires-3 c κs = search needs
 
 returns : tie.Need-returns
 unfolding addModule
-returns c = rw (c .before .before .before .before .before .before .if1 .taken, c .before .before .before .before .plogp .ensures, c .before .before .plogp2 .ensures, c .before .plogp3 .ensures)
+returns c =
+    let c4 = c .before .before .before .before in
+    let c6 = c4 .before .before in
+    rw (c6 .if1 .taken, c4 .plogp .ensures, c .before .before .plogp2 .ensures, c .before .plogp3 .ensures)
 
 returns-2 : tie.Need-returns-2
 returns-2 c = rw (c .if1 .left)

@@ -1,15 +1,15 @@
-use mathlib.Core.Path.{_≡_, refl, sym, _∙_}
+-- `codelength::clear` meets its contract. The loop has cleared the elements below i. Assumes nothing.
+use mathlib.Core.Path.{_≡_, refl}
 use native.Mathlib.Omega.{arith}
-use Prim.Native.Nat.{ℕ, _-_, _+_, _≤_, _<_}
+use Prim.Native.Nat.{ℕ, _-_, _≤_, _<_}
 use lib.ListN.{length, getD, length-set}
 use lib.Ieee.{nan}
 use Rattle.float.specs.Binary64.{zero64}
-use Rattle.codelength.proofs.Sums.{cleared, clear-on}
+use Rattle.codelength.proofs.Sums.{cleared}
+use Rattle.rng.proofs.Stores.{stored-below}
 use borrow.Author.Needs.{needs}
 use Rattle.codelength.proofs.clear.Statement.{statement}
 use Rattle.codelength.proofs.clear.Tie as tie
-use Rattle.codelength.proofs.clear.Reads as reads
-use Rattle.codelength.proofs.clear.Lts as lts
 
 abbrev Inv-loop : tie.InvT-loop
 Inv-loop xs₀ i₀ xs i = ((k : ℕ) → k < i → getD xs k nan ≡ zero64) × (length xs ≡ length xs₀) × (i ≤ length xs₀)
@@ -33,7 +33,7 @@ loop-less : tie.Need-loop-less Inv-loop μ-loop
 loop-less c = search needs
 
 loop-again : tie.Need-loop-again Inv-loop μ-loop
-loop-again c = (clear-on (c .before .loop .xs) (c .before .loop .i) (c .loop-test .taken) (c .before .loop .inv .0), simp length-set (omega arith), omega arith)
+loop-again c = (stored-below _ (c .before .loop .xs) (c .before .loop .i) _ (c .loop-test .taken) (λ _. zero64) (c .before .loop .inv .0) refl, simp length-set (omega arith), omega arith)
 
 same-length : tie.Need-same-length Inv-loop μ-loop
 same-length c = c .before .loop .inv .1

@@ -1,11 +1,8 @@
-use mathlib.Core.Path.{_≡_, refl, sym, _∙_}
+-- `codelength::codelength_of` meets its contract. Assumes nothing.
 use Rattle.codelength.specs.Codelength.{codelengthOf}
 use borrow.Author.Needs.{needs}
 use Rattle.codelength.proofs.codelength_of.Statement.{statement}
 use Rattle.codelength.proofs.codelength_of.Tie as tie
-use Rattle.codelength.proofs.codelength_of.Reads as reads
-use Rattle.codelength.proofs.codelength_of.Lts as lts
-use Rattle.float.proofs.plogp.Reads as plogp-reads
 
 plogp-requires : tie.Need-plogp-requires
 plogp-requires c κs = search needs

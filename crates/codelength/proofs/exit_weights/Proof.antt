@@ -1,4 +1,5 @@
-use mathlib.Core.Path.{_≡_, refl, sym, _∙_}
+-- `codelength::exit_weights` meets its contract. The loop: what is left to add, added to the sum so far, is the whole sum. Assumes nothing.
+use mathlib.Core.Path.{_≡_, refl, _∙_}
 use Prim.Native.Nat.{_-_}
 use lib.ListN.{length, drop}
 use Rattle.codelength.specs.Codelength.{exitFrom}
@@ -6,9 +7,6 @@ use Rattle.codelength.proofs.Sums.{out-on, out-end}
 use borrow.Author.Needs.{needs}
 use Rattle.codelength.proofs.exit_weights.Statement.{statement}
 use Rattle.codelength.proofs.exit_weights.Tie as tie
-use Rattle.codelength.proofs.exit_weights.Reads as reads
-use Rattle.codelength.proofs.exit_weights.Lts as lts
-use Rattle.codelength.proofs.add_exit.Reads as add-exit-reads
 
 abbrev Inv-loop : tie.InvT-loop
 Inv-loop part row g start a₀ v₀ a v = exitFrom g a (drop v part) (drop v row) ≡ exitFrom g a₀ part row
@@ -41,7 +39,10 @@ loop-less : tie.Need-loop-less Inv-loop μ-loop
 loop-less c = search needs
 
 loop-again : tie.Need-loop-again Inv-loop μ-loop
-loop-again c = out-on _ _ _ _ _ _ (c .before .before .before .loop-test .taken) (c .before .before .before .before .before .before .before .pre) (c .add-exit .ensures) ∙ c .before .before .before .before .loop .inv
+loop-again c =
+    let c4 = c .before .before .before .before in
+    let c7 = c4 .before .before .before in
+    out-on _ _ _ _ _ _ (c .before .before .before .loop-test .taken) (c7 .pre) (c .add-exit .ensures) ∙ c4 .loop .inv
 
 returns : tie.Need-returns Inv-loop μ-loop
 returns c = out-end _ _ _ _ _ (c .loop-test .left) ∙ c .before .loop .inv

@@ -1,13 +1,9 @@
-use mathlib.Core.Path.{_≡_, refl, sym, _∙_, ap}
+-- `codelength::from_partition` meets its contract. Assumes nothing.
 use Rattle.map_state.specs.Arrays.{netOf}
 use Rattle.codelength.proofs.Sums.{from-partition-is}
 use borrow.Author.Needs.{needs}
 use Rattle.codelength.proofs.from_partition.Statement.{statement}
 use Rattle.codelength.proofs.from_partition.Tie as tie
-use Rattle.codelength.proofs.from_partition.Reads as reads
-use Rattle.codelength.proofs.from_partition.Lts as lts
-use Rattle.codelength.proofs.sum_modules.Reads as sum-modules-reads
-use Rattle.map_state.proofs.sum_q.Reads as sum-q-reads
 
 sum-modules-requires : tie.Need-sum-modules-requires
 sum-modules-requires c κs = search needs
@@ -23,8 +19,10 @@ same-length-2 c = search needs
 
 returns : tie.Need-returns
 returns c =
-    let a = c .before .before .before .before .before .before .before .before .before .before .before .before .before .before .before .args in
-    from-partition-is (netOf (a .table .now) (a .stride) (a .strength .now) (a .d)) (a .partition .now) (c .before .before .before .before .before .before .sum-modules .ensures (a .d)) (c .sum-q .ensures)
+    let c6 = c .before .before .before .before .before .before in
+    let c15 = c6 .before .before .before .before .before .before .before .before .before in
+    let a = c15 .args in
+    from-partition-is (netOf (a .table .now) (a .stride) (a .strength .now) (a .d)) (a .partition .now) (c6 .sum-modules .ensures (a .d)) (c .sum-q .ensures)
 
 pub from-partition-spec : {M : Type 1} → statement M
 from-partition-spec = tie.close (tie.spec sum-modules-requires sum-q-requires same-length same-length-2 returns)

@@ -1,21 +1,19 @@
-use mathlib.Core.Path.{_≡_, refl, sym, _∙_, ap}
+-- `codelength::map_equation` meets its contract. Assumes nothing.
+use mathlib.Core.Path.{_∙_}
 use Rattle.map_state.specs.Arrays.{netOf}
 use Rattle.codelength.proofs.Sums.{codelength-is}
 use borrow.Author.Needs.{needs}
 use Rattle.codelength.proofs.map_equation.Statement.{statement}
 use Rattle.codelength.proofs.map_equation.Tie as tie
-use Rattle.codelength.proofs.map_equation.Reads as reads
-use Rattle.codelength.proofs.map_equation.Lts as lts
-use Rattle.codelength.proofs.sum_terms.Reads as sum-terms-reads
-use Rattle.codelength.proofs.codelength_of.Reads as codelength-of-reads
-use Rattle.codelength.proofs.node_plogp_sum.Reads as node-plogp-sum-reads
-use Rattle.codelength.proofs.sum_modules.Reads as sum-modules-reads
 
 sum-modules-requires : tie.Need-sum-modules-requires
 sum-modules-requires c κs = search needs
 
 sum-terms-requires : tie.Need-sum-terms-requires
-sum-terms-requires c κs = (c .before .before .before .before .before .before .before .before .before .before .before .before .before .before .before .pre .0 .firsts, c .before .before .before .before .before .before .sum-modules .kept .1 .1 .1 .1 .1 .0 ∙ c .before .before .before .before .before .before .before .before .before .before .before .before .before .before .before .pre .0 .exit, c .before .before .before .before .before .before .sum-modules .kept .1 .1 .1 .1 .1 .1 .0 ∙ c .before .before .before .before .before .before .before .before .before .before .before .before .before .before .before .pre .0 .sums, c .before .before .before .before .before .before .before .before .before .before .before .before .before .before .before .pre .1)
+sum-terms-requires c κs =
+    let c6 = c .before .before .before .before .before .before in
+    let c15 = c6 .before .before .before .before .before .before .before .before .before in
+    (c15 .pre .0 .firsts, c6 .sum-modules .kept .1 .1 .1 .1 .1 .0 ∙ c15 .pre .0 .exit, c6 .sum-modules .kept .1 .1 .1 .1 .1 .1 .0 ∙ c15 .pre .0 .sums, c15 .pre .1)
 
 node-plogp-sum-requires : tie.Need-node-plogp-sum-requires
 node-plogp-sum-requires c κs = search needs
@@ -31,8 +29,11 @@ same-length-2 c = search needs
 
 returns : tie.Need-returns
 returns c =
-    let a = c .before .before .before .before .before .before .before .before .before .before .before .before .before .before .before .before .before .before .args in
-    codelength-is (netOf (a .table .now) (a .stride) (a .strength .now) (a .d)) (a .partition .now) (c .before .before .before .before .before .before .before .before .before .sum-modules .ensures (a .d)) (c .before .before .sum-terms .ensures) (c .before .node-plogp-sum .ensures) (c .codelength-of .ensures)
+    let c9 = c .before .before .before .before .before .before .before .before .before in
+    let c9 = c9 in
+    let c18 = c9 .before .before .before .before .before .before .before .before .before in
+    let a = c18 .args in
+    codelength-is (netOf (a .table .now) (a .stride) (a .strength .now) (a .d)) (a .partition .now) (c9 .sum-modules .ensures (a .d)) (c .before .before .sum-terms .ensures) (c .before .node-plogp-sum .ensures) (c .codelength-of .ensures)
 
 pub map-equation-spec : {M : Type 1} → statement M
 map-equation-spec =

@@ -1,4 +1,5 @@
-use mathlib.Core.Path.{_≡_, refl, sym, _∙_, ap}
+-- `codelength::node_plogp_sum` meets its contract. The loop: what is left to add, added to the sum so far, is the whole sum. Assumes nothing.
+use mathlib.Core.Path.{_≡_, refl, _∙_, ap}
 use Prim.Native.Nat.{_-_}
 use lib.ListN.{length, drop}
 use lib.Ieee.{Float}
@@ -8,9 +9,6 @@ use Rattle.codelength.proofs.Sums.{nodes-on, nodes-end}
 use borrow.Author.Needs.{needs}
 use Rattle.codelength.proofs.node_plogp_sum.Statement.{statement}
 use Rattle.codelength.proofs.node_plogp_sum.Tie as tie
-use Rattle.codelength.proofs.node_plogp_sum.Reads as reads
-use Rattle.codelength.proofs.node_plogp_sum.Lts as lts
-use Rattle.float.proofs.plogp.Reads as plogp-reads
 
 abbrev Inv-loop : tie.InvT-loop
 Inv-loop strength d a₀ v₀ a v = nodePlogpFrom d a (drop v strength) ≡ nodePlogpFrom d zero64 strength

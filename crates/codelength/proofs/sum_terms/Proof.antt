@@ -1,4 +1,5 @@
-use mathlib.Core.Path.{_≡_, refl, sym, _∙_, ap}
+-- `codelength::sum_terms` meets its contract. The loop: the groups whose lowest member is v or higher, added to the terms so far, give all terms. Assumes nothing.
+use mathlib.Core.Path.{_≡_, _∙_, ap}
 use mathlib.Core.Bool.{cond}
 use Prim.Native.Nat.{ℕ, _-_}
 use lib.ListN.{length, getD}
@@ -10,10 +11,6 @@ use Rattle.codelength.proofs.Sums.{terms-on, terms-end}
 use borrow.Author.Needs.{needs}
 use Rattle.codelength.proofs.sum_terms.Statement.{statement}
 use Rattle.codelength.proofs.sum_terms.Tie as tie
-use Rattle.codelength.proofs.sum_terms.Reads as reads
-use Rattle.codelength.proofs.sum_terms.Lts as lts
-use Rattle.codelength.proofs.add_module.Reads as add-module-reads
-use Rattle.map_state.proofs.wide.Reads as wide-reads
 
 abbrev Inv-loop : tie.InvT-loop
 Inv-loop part first exit strengths d t₀ v₀ t v = termsFrom d part exit strengths t v (length part - v) ≡ terms d part exit strengths
@@ -56,9 +53,13 @@ loop-less c = search needs
 
 loop-again : tie.Need-loop-again Inv-loop μ-loop
 loop-again c =
-    let a = c .before .before .before .before .before .before .before .before .before .before .before .args in
-    let l = c .before .before .before .before .before .before .loop in
-    terms-on (a .d) (a .partition .now) (a .first .now) (a .exits .now) (a .strengths .now) (l .t) _ (l .v) (c .before .before .before .before .before .before .before .before .before .before .before .pre .3) (c .before .before .before .before .before .loop-test .taken)
+    let c5 = c .before .before .before .before .before in
+    let c5 = c5 in
+    let c6 = c5 .before in
+    let c11 = c6 .before .before .before .before .before in
+    let a = c11 .args in
+    let l = c6 .loop in
+    terms-on (a .d) (a .partition .now) (a .first .now) (a .exits .now) (a .strengths .now) (l .t) _ (l .v) (c11 .pre .3) (c5 .loop-test .taken)
     (c .add-module .ensures ∙ ap (λ (z : ℕ). cond (eqb z (l .v)) (addModule (a .d) (l .t) (getD (a .exits .now) (l .v) nan) (getD (a .strengths .now) (l .v) nan)) (l .t)) (c .before .before .before .wide .ensures)) ∙ l .inv
 
 returns : tie.Need-returns Inv-loop μ-loop

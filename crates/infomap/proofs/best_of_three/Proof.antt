@@ -1,25 +1,20 @@
+-- `infomap::best_of_three` meets its contract. The loop: the trials that are left, from what is kept so far, give the kept grouping. Assumes nothing.
 use mathlib.Core.List.{List}
 use lib.Ieee.{nanBits}
-use mathlib.Core.Path.{_≡_, refl, sym, _∙_, ap, subst}
-use mathlib.Core.Bool.{true, false}
+use mathlib.Core.Path.{_≡_, refl, sym, _∙_, ap}
 use native.Mathlib.Omega.{arith}
-use Prim.Native.Nat.{ℕ, _-_, _+_, _*_, _≤_, _<_}
-use lib.ListN.{length, getD, length-set}
-use Rattle.map_state.specs.Arrays.{netOf, stateOf, Firsts, Sized}
-use Rattle.optimize.specs.Rounds.{runOf, Run, optimizePartition}
+use Prim.Native.Nat.{ℕ}
+use lib.ListN.{length}
+use Rattle.map_state.specs.Arrays.{netOf, Sized}
+use Rattle.optimize.specs.Rounds.{Run, optimizePartition}
 use Rattle.lists.specs.Lists.{upto}
 use Rattle.float.specs.Binary64.{infinity64}
 use Rattle.infomap.specs.Infomap.{noneKept, markOf, keep, trials, bestOfThree, groupingOf}
 use Rattle.optimize.proofs.Passes.{sized-kept}
-use Rattle.infomap.proofs.Trials.{keep-yes, keep-no, trials-on, trials-end, copied, copy-on}
+use Rattle.infomap.proofs.Trials.{trials-on, trials-end}
 use borrow.Author.Needs.{needs}
 use Rattle.infomap.proofs.best_of_three.Statement.{statement}
 use Rattle.infomap.proofs.best_of_three.Tie as tie
-use Rattle.infomap.proofs.best_of_three.Reads as reads
-use Rattle.infomap.proofs.best_of_three.Lts as lts
-use Rattle.rng.proofs.fill.Reads as fill-reads
-use Rattle.infomap.proofs.keep.Reads as keep-reads
-use Rattle.optimize.proofs.optimize_partition.Reads as optimize-partition-reads
 
 abbrev Inv-loop : tie.InvT-loop
 Inv-loop table m strength d part₀ first₀ exits₀ strengths₀ order₀ best₀ rng k₀ x₀ left₀ part first exit strengths order best k x left = (trials (netOf table m strength d) left x (groupingOf best k) ≡ bestOfThree (netOf table m strength d) x₀) × (Sized table m strength part first exit strengths) × (length part ≡ length part₀) × (length first ≡ length first₀) × (length exit ≡ length exits₀) × (length strengths ≡ length strengths₀) × (length order ≡ length order₀) × (length best ≡ length best₀)
@@ -37,9 +32,11 @@ float-from-bits-t20 c = search needs
 loop-holds : tie.Need-loop-holds Inv-loop μ-loop
 unfolding bestOfThree markOf
 loop-holds c =
-    let a = c .before .before .before .before .before .before .before .before .before .before .before .before .args in (
-      ap (λ (l : List ℕ). trials (netOf (a .table .now) (a .stride) (a .strength .now) (a .d)) 3 (a .rng) (record { partition = l; mark = noneKept; rounds = 0; codelength = infinity64 })) (c .before .before .fill .ensures ∙ ap upto (c .before .before .before .before .before .before .before .before .before .before .before .before .pre .2 ∙ sym (c .before .before .before .before .before .before .before .before .before .before .before .before .pre .0 .nodes))),
-      c .before .before .before .before .before .before .before .before .before .before .before .before .pre .0,
+    let c12 = c .before .before .before .before .before .before .before .before .before .before .before .before in
+    let c12 = c12 in
+    let a = c12 .args in (
+      ap (λ (l : List ℕ). trials (netOf (a .table .now) (a .stride) (a .strength .now) (a .d)) 3 (a .rng) (record { partition = l; mark = noneKept; rounds = 0; codelength = infinity64 })) (c .before .before .fill .ensures ∙ ap upto (c12 .pre .2 ∙ sym (c12 .pre .0 .nodes))),
+      c12 .pre .0,
       refl,
       refl,
       refl,
@@ -50,38 +47,56 @@ loop-holds c =
 
 optimize-partition-requires : tie.Need-optimize-partition-requires Inv-loop μ-loop
 optimize-partition-requires c κs =
-    let l = c .before .before .before .before .before .before .loop in
-    (l .inv .1, l .inv .6 ∙ c .before .before .before .before .before .before .before .before .before .before .before .before .before .before .before .before .before .before .before .pre .1 ∙ sym (l .inv .2))
+    let c6 = c .before .before .before .before .before .before in
+    let c19 = c6 .before .before .before .before .before .before .before .before .before .before .before .before .before in
+    let l = c6 .loop in
+    (l .inv .1, l .inv .6 ∙ c19 .pre .1 ∙ sym (l .inv .2))
 
 keep-requires : tie.Need-keep-requires Inv-loop μ-loop
 keep-requires c κs =
-    let a = c .before .before .before .before .before .before .before .before .before .before .before .before .before .before .before .before .before .before .before .before .before .before .before .before .before .before .before .before .before .before .before .before .before .before .before .args in
-    let l = c .before .before .before .before .before .before .before .before .before .before .before .before .before .before .before .before .before .before .before .before .before .before .loop in (
-      sized-kept (a .table .now) (a .stride) (a .strength .now) (l .partition) (l .first) (l .exits) (l .strengths) (c .before .before .before .before .before .before .before .before .before .before .before .before .before .before .before .optimize-partition .last .1 .1 .1 .1 .0) (c .before .before .before .before .before .before .before .before .before .before .before .before .before .before .before .optimize-partition .last .1 .1 .1 .1 .1 .0) (c .before .before .before .before .before .before .before .before .before .before .before .before .before .before .before .optimize-partition .last .1 .1 .1 .1 .1 .1 .0) (c .before .before .before .before .before .before .before .before .before .before .before .before .before .before .before .optimize-partition .last .1 .1 .1 .1 .1 .1 .1 .0) (l .inv .1) (c .before .before .before .before .before .before .before .before .before .before .before .before .before .before .before .optimize-partition .kept .1 .1 .1 .1 .0) (c .before .before .before .before .before .before .before .before .before .before .before .before .before .before .before .optimize-partition .kept .1 .1 .1 .1 .1 .0) (c .before .before .before .before .before .before .before .before .before .before .before .before .before .before .before .optimize-partition .kept .1 .1 .1 .1 .1 .1 .0) (c .before .before .before .before .before .before .before .before .before .before .before .before .before .before .before .optimize-partition .kept .1 .1 .1 .1 .1 .1 .1 .0),
-      c .before .before .before .before .before .before .before .before .before .before .before .before .before .before .before .optimize-partition .ensures .1,
-      l .inv .7 ∙ c .before .before .before .before .before .before .before .before .before .before .before .before .before .before .before .before .before .before .before .before .before .before .before .before .before .fill .kept .0 ∙ c .before .before .before .before .before .before .before .before .before .before .before .before .before .before .before .before .before .before .before .before .before .before .before .before .before .before .before .before .before .before .before .before .before .before .before .pre .2 ∙ sym (l .inv .2) ∙ sym (c .before .before .before .before .before .before .before .before .before .before .before .before .before .before .before .optimize-partition .kept .1 .1 .1 .1 .0),
+    let c15 = c .before .before .before .before .before .before .before .before .before .before .before .before .before .before .before in
+    let c15 = c15 in
+    let c22 = c15 .before .before .before .before .before .before .before in
+    let c25 = c22 .before .before .before in
+    let c35 = c25 .before .before .before .before .before .before .before .before .before .before in
+    let a = c35 .args in
+    let l = c22 .loop in (
+      sized-kept (a .table .now) (a .stride) (a .strength .now) (l .partition) (l .first) (l .exits) (l .strengths) (c15 .optimize-partition .last .1 .1 .1 .1 .0) (c15 .optimize-partition .last .1 .1 .1 .1 .1 .0) (c15 .optimize-partition .last .1 .1 .1 .1 .1 .1 .0) (c15 .optimize-partition .last .1 .1 .1 .1 .1 .1 .1 .0) (l .inv .1) (c15 .optimize-partition .kept .1 .1 .1 .1 .0) (c15 .optimize-partition .kept .1 .1 .1 .1 .1 .0) (c15 .optimize-partition .kept .1 .1 .1 .1 .1 .1 .0) (c15 .optimize-partition .kept .1 .1 .1 .1 .1 .1 .1 .0),
+      c15 .optimize-partition .ensures .1,
+      l .inv .7 ∙ c25 .fill .kept .0 ∙ c35 .pre .2 ∙ sym (l .inv .2) ∙ sym (c15 .optimize-partition .kept .1 .1 .1 .1 .0),
     )
 
 sub-left : tie.Need-sub-left Inv-loop μ-loop
-sub-left c = omega (arith, c .before .before .before .before .before .before .before .before .before .before .before .before .before .before .before .before .before .before .before .before .before .before .before .before .before .before .before .before .loop-test .taken)
+sub-left c =
+    let c28 = c .before .before .before .before .before .before .before .before .before .before .before .before .before .before .before .before .before .before .before .before .before .before .before .before .before .before .before .before in
+    let c28 = c28 in
+    omega (arith, c28 .loop-test .taken)
 
 loop-less : tie.Need-loop-less Inv-loop μ-loop
-loop-less c = omega (arith, c .before .before .before .before .before .before .before .before .before .before .before .before .before .before .before .before .before .before .before .before .before .before .before .before .before .before .before .before .loop-test .taken)
+loop-less c =
+    let c28 = c .before .before .before .before .before .before .before .before .before .before .before .before .before .before .before .before .before .before .before .before .before .before .before .before .before .before .before .before in
+    let c28 = c28 in
+    omega (arith, c28 .loop-test .taken)
 
 loop-again : tie.Need-loop-again Inv-loop μ-loop
 loop-again c =
-    let a = c .before .before .before .before .before .before .before .before .before .before .before .before .before .before .before .before .before .before .before .before .before .before .before .before .before .before .before .before .before .before .before .before .before .before .before .before .before .before .before .before .before .before .args in
-    let l = c .before .before .before .before .before .before .before .before .before .before .before .before .before .before .before .before .before .before .before .before .before .before .before .before .before .before .before .before .before .loop in
-    let e = c .before .before .before .before .before .before .before .before .before .before .before .before .before .before .before .before .before .before .before .before .before .before .optimize-partition .ensures .0 in (
-      trials-on (netOf (a .table .now) (a .stride) (a .strength .now) (a .d)) (l .left) (l .x) (groupingOf (l .best) (l .k)) (c .before .before .before .before .before .before .before .before .before .before .before .before .before .before .before .before .before .before .before .before .before .before .before .before .before .before .before .before .loop-test .taken) (ap (λ (r : Run). r .rng) e)
-          (c .before .before .before .before .before .before .keep .ensures (optimizePartition (netOf (a .table .now) (a .stride) (a .strength .now) (a .d)) (l .x)) (sym (ap (λ (r : Run). r .state .partition) e)) (sym (ap (λ (r : Run). r .rounds) e)) (sym (ap (λ (r : Run). r .moved) e))) ∙ l .inv .0,
-      sized-kept (a .table .now) (a .stride) (a .strength .now) (l .partition) (l .first) (l .exits) (l .strengths) (c .before .before .before .before .before .before .before .before .before .before .before .before .before .before .before .before .before .before .before .before .before .before .optimize-partition .last .1 .1 .1 .1 .0) (c .before .before .before .before .before .before .before .before .before .before .before .before .before .before .before .before .before .before .before .before .before .before .optimize-partition .last .1 .1 .1 .1 .1 .0) (c .before .before .before .before .before .before .keep .last .1 .1 .1 .1 .1 .1 .0) (c .before .before .before .before .before .before .keep .last .1 .1 .1 .1 .1 .1 .1 .0) (l .inv .1) (c .before .before .before .before .before .before .before .before .before .before .before .before .before .before .before .before .before .before .before .before .before .before .optimize-partition .kept .1 .1 .1 .1 .0) (c .before .before .before .before .before .before .before .before .before .before .before .before .before .before .before .before .before .before .before .before .before .before .optimize-partition .kept .1 .1 .1 .1 .1 .0) (c .before .before .before .before .before .before .keep .kept .1 .1 .1 .1 .1 .1 .0 ∙ c .before .before .before .before .before .before .before .before .before .before .before .before .before .before .before .before .before .before .before .before .before .before .optimize-partition .kept .1 .1 .1 .1 .1 .1 .0) (c .before .before .before .before .before .before .keep .kept .1 .1 .1 .1 .1 .1 .1 .0 ∙ c .before .before .before .before .before .before .before .before .before .before .before .before .before .before .before .before .before .before .before .before .before .before .optimize-partition .kept .1 .1 .1 .1 .1 .1 .1 .0),
-      c .before .before .before .before .before .before .before .before .before .before .before .before .before .before .before .before .before .before .before .before .before .before .optimize-partition .kept .1 .1 .1 .1 .0 ∙ l .inv .2,
-      c .before .before .before .before .before .before .before .before .before .before .before .before .before .before .before .before .before .before .before .before .before .before .optimize-partition .kept .1 .1 .1 .1 .1 .0 ∙ l .inv .3,
-      c .before .before .before .before .before .before .keep .kept .1 .1 .1 .1 .1 .1 .0 ∙ c .before .before .before .before .before .before .before .before .before .before .before .before .before .before .before .before .before .before .before .before .before .before .optimize-partition .kept .1 .1 .1 .1 .1 .1 .0 ∙ l .inv .4,
-      c .before .before .before .before .before .before .keep .kept .1 .1 .1 .1 .1 .1 .1 .0 ∙ c .before .before .before .before .before .before .before .before .before .before .before .before .before .before .before .before .before .before .before .before .before .before .optimize-partition .kept .1 .1 .1 .1 .1 .1 .1 .0 ∙ l .inv .5,
-      c .before .before .before .before .before .before .before .before .before .before .before .before .before .before .before .before .before .before .before .before .before .before .optimize-partition .kept .1 .1 .1 .1 .1 .1 .1 .1 .0 ∙ l .inv .6,
-      c .before .before .before .before .before .before .keep .kept .1 .1 .1 .1 .1 .1 .1 .1 .0 ∙ l .inv .7,
+    let c6 = c .before .before .before .before .before .before in
+    let c22 = c6 .before .before .before .before .before .before .before .before .before .before .before .before .before .before .before .before in
+    let c28 = c22 .before .before .before .before .before .before in
+    let c29 = c28 .before in
+    let c42 = c29 .before .before .before .before .before .before .before .before .before .before .before .before .before in
+    let a = c42 .args in
+    let l = c29 .loop in
+    let e = c22 .optimize-partition .ensures .0 in (
+      trials-on (netOf (a .table .now) (a .stride) (a .strength .now) (a .d)) (l .left) (l .x) (groupingOf (l .best) (l .k)) (c28 .loop-test .taken) (ap (λ (r : Run). r .rng) e)
+          (c6 .keep .ensures (optimizePartition (netOf (a .table .now) (a .stride) (a .strength .now) (a .d)) (l .x)) (sym (ap (λ (r : Run). r .state .partition) e)) (sym (ap (λ (r : Run). r .rounds) e)) (sym (ap (λ (r : Run). r .moved) e))) ∙ l .inv .0,
+      sized-kept (a .table .now) (a .stride) (a .strength .now) (l .partition) (l .first) (l .exits) (l .strengths) (c22 .optimize-partition .last .1 .1 .1 .1 .0) (c22 .optimize-partition .last .1 .1 .1 .1 .1 .0) (c6 .keep .last .1 .1 .1 .1 .1 .1 .0) (c6 .keep .last .1 .1 .1 .1 .1 .1 .1 .0) (l .inv .1) (c22 .optimize-partition .kept .1 .1 .1 .1 .0) (c22 .optimize-partition .kept .1 .1 .1 .1 .1 .0) (c6 .keep .kept .1 .1 .1 .1 .1 .1 .0 ∙ c22 .optimize-partition .kept .1 .1 .1 .1 .1 .1 .0) (c6 .keep .kept .1 .1 .1 .1 .1 .1 .1 .0 ∙ c22 .optimize-partition .kept .1 .1 .1 .1 .1 .1 .1 .0),
+      c22 .optimize-partition .kept .1 .1 .1 .1 .0 ∙ l .inv .2,
+      c22 .optimize-partition .kept .1 .1 .1 .1 .1 .0 ∙ l .inv .3,
+      c6 .keep .kept .1 .1 .1 .1 .1 .1 .0 ∙ c22 .optimize-partition .kept .1 .1 .1 .1 .1 .1 .0 ∙ l .inv .4,
+      c6 .keep .kept .1 .1 .1 .1 .1 .1 .1 .0 ∙ c22 .optimize-partition .kept .1 .1 .1 .1 .1 .1 .1 .0 ∙ l .inv .5,
+      c22 .optimize-partition .kept .1 .1 .1 .1 .1 .1 .1 .1 .0 ∙ l .inv .6,
+      c6 .keep .kept .1 .1 .1 .1 .1 .1 .1 .1 .0 ∙ l .inv .7,
     )
 
 same-length : tie.Need-same-length Inv-loop μ-loop
@@ -104,7 +119,9 @@ same-length-6 c = c .before .loop .inv .7 ∙ c .before .before .before .before 
 
 returns : tie.Need-returns Inv-loop μ-loop
 returns c =
-    let a = c .before .before .before .before .before .before .before .before .before .before .before .before .before .before .args in
+    let c14 = c .before .before .before .before .before .before .before .before .before .before .before .before .before .before in
+    let c14 = c14 in
+    let a = c14 .args in
     let l = c .before .loop in
     trials-end (netOf (a .table .now) (a .stride) (a .strength .now) (a .d)) (l .left) (l .x) (groupingOf (l .best) (l .k)) (c .loop-test .left) ∙ l .inv .0
 

@@ -1,19 +1,13 @@
-use mathlib.Core.Path.{_≡_, refl, sym, _∙_, ap, subst}
-use mathlib.Core.Bool.{true, false}
+-- `infomap::copy` meets its contract. The loop has copied the elements below i. Assumes nothing.
+use mathlib.Core.Path.{_≡_, refl, _∙_}
 use native.Mathlib.Omega.{arith}
-use Prim.Native.Nat.{ℕ, _-_, _+_, _*_, _≤_, _<_}
+use Prim.Native.Nat.{ℕ, _-_, _<_}
 use lib.ListN.{length, getD, length-set}
-use Rattle.map_state.specs.Arrays.{netOf, stateOf, Firsts, Sized}
-use Rattle.optimize.specs.Rounds.{runOf, Run, optimizePartition}
-use Rattle.lists.specs.Lists.{upto}
-use Rattle.infomap.specs.Infomap.{keep, trials, bestOfThree, groupingOf}
-use Rattle.optimize.proofs.Passes.{sized-kept}
-use Rattle.infomap.proofs.Trials.{keep-yes, keep-no, trials-on, trials-end, copied, copy-on}
+use Rattle.infomap.proofs.Trials.{copied}
+use Rattle.rng.proofs.Stores.{stored-below}
 use borrow.Author.Needs.{needs}
 use Rattle.infomap.proofs.copy.Statement.{statement}
 use Rattle.infomap.proofs.copy.Tie as tie
-use Rattle.infomap.proofs.copy.Reads as reads
-use Rattle.infomap.proofs.copy.Lts as lts
 
 abbrev Inv-loop : tie.InvT-loop
 Inv-loop to₀ from i₀ to i = ((k : ℕ) → k < i → getD to k 0 ≡ getD from k 0) × (length to ≡ length to₀)
@@ -43,7 +37,7 @@ loop-less : tie.Need-loop-less Inv-loop μ-loop
 loop-less c = search needs
 
 loop-again : tie.Need-loop-again Inv-loop μ-loop
-loop-again c = (copy-on (c .before .before .loop .to) (c .before .before .before .args .from .now) (c .before .before .loop .i) (omega (arith, c .before .before .loop .inv .1, c .before .before .before .pre, c .before .loop-test .taken)) (c .before .before .loop .inv .0), simp length-set (c .before .before .loop .inv .1))
+loop-again c = (stored-below _ (c .before .before .loop .to) (c .before .before .loop .i) _ (omega (arith, c .before .before .loop .inv .1, c .before .before .before .pre, c .before .loop-test .taken)) (λ k. getD (c .before .before .before .args .from .now) k 0) (c .before .before .loop .inv .0) refl, simp length-set (c .before .before .loop .inv .1))
 
 same-length : tie.Need-same-length Inv-loop μ-loop
 same-length c = c .before .loop .inv .1

@@ -1,19 +1,11 @@
-use mathlib.Core.Path.{_≡_, refl, sym, _∙_, ap}
-use mathlib.Core.List.{List}
-use Prim.Native.Nat.{ℕ}
-use native.Mathlib.Omega.{arith}
-use lib.ListN.{length}
+-- `infomap::kept_grouping` meets its contract. Assumes nothing.
+use mathlib.Core.Path.{sym, _∙_, ap}
 use Rattle.map_state.specs.Arrays.{netOf}
 use Rattle.infomap.specs.Infomap.{markOf, bestOfThree}
 use Rattle.infomap.proofs.Trials.{kept-links, kept-none}
 use borrow.Author.Needs.{needs}
 use Rattle.infomap.proofs.kept_grouping.Statement.{statement}
 use Rattle.infomap.proofs.kept_grouping.Tie as tie
-use Rattle.infomap.proofs.kept_grouping.Reads as reads
-use Rattle.infomap.proofs.kept_grouping.Lts as lts
-use Rattle.infomap.proofs.best_of_three.Reads as best-of-three-reads
-use Rattle.rng.proofs.fill.Reads as fill-reads
-use Rattle.rng.proofs.seeded.Reads as seeded-reads
 
 seeded-requires : tie.Need-seeded-requires
 seeded-requires c κs = search needs
@@ -41,9 +33,14 @@ same-length-6 c = search needs
 
 returns : tie.Need-returns
 returns c =
-    let a = c .before .before .before .before .before .before .before .before .before .before .before .before .before .before .before .before .before .before .before .before .before .before .before .before .before .before .before .before .before .args in
+    let c12 = c .before .before .before .before .before .before .before .before .before .before .before .before in
+    let c12 = c12 in
+    let c19 = c12 .before .before .before .before .before .before .before in
+    let c20 = c19 .before in
+    let c29 = c20 .before .before .before .before .before .before .before .before .before in
+    let a = c29 .args in
     let n = netOf (a .table .now) (a .stride) (a .strength .now) (a .d) in
-    kept-links n (a .seed) (c .before .before .before .before .before .before .before .before .before .before .before .before .before .before .before .before .before .before .before .before .if1 .taken) (c .before .before .before .before .before .before .before .before .before .before .before .before .best-of-three .ensures ∙ ap (bestOfThree n) (c .before .before .before .before .before .before .before .before .before .before .before .before .before .before .before .before .before .before .before .seeded .ensures))
+    kept-links n (a .seed) (c20 .if1 .taken) (c12 .best-of-three .ensures ∙ ap (bestOfThree n) (c19 .seeded .ensures))
 
 fill-requires : tie.Need-fill-requires
 fill-requires c κs = search needs
@@ -54,8 +51,10 @@ same-length-7 c = search needs
 returns-2 : tie.Need-returns-2
 unfolding markOf
 returns-2 c =
-    let a = c .before .before .before .before .before .before .before .before .before .before .before .before .before .args in
-    kept-none (netOf (a .table .now) (a .stride) (a .strength .now) (a .d)) (a .seed) _ (c .before .before .before .before .if1 .left) (c .before .before .before .before .before .before .before .before .before .before .before .before .before .pre .2 ∙ sym (c .before .before .before .before .before .before .before .before .before .before .before .before .before .pre .0 .nodes)) (c .before .before .fill .ensures)
+    let c4 = c .before .before .before .before in
+    let c13 = c4 .before .before .before .before .before .before .before .before .before in
+    let a = c13 .args in
+    kept-none (netOf (a .table .now) (a .stride) (a .strength .now) (a .d)) (a .seed) _ (c4 .if1 .left) (c13 .pre .2 ∙ sym (c13 .pre .0 .nodes)) (c .before .before .fill .ensures)
 
 pub kept-grouping-spec : {M : Type 1} → statement M
 kept-grouping-spec =

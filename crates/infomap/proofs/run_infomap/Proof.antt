@@ -1,4 +1,5 @@
-use mathlib.Core.Path.{_≡_, refl, sym, _∙_, ap}
+-- `infomap::run_infomap` meets its contract. Assumes nothing.
+use mathlib.Core.Path.{_≡_, refl, sym}
 use native.Mathlib.Omega.{arith}
 use Prim.Native.Nat.{ℕ, _-_, _≤_}
 use lib.ListN.{length, replicate, take, drop}
@@ -8,9 +9,6 @@ use Rattle.infomap.proofs.Trials.{part-of, sized-parts}
 use borrow.Author.Needs.{needs}
 use Rattle.infomap.proofs.run_infomap.Statement.{statement}
 use Rattle.infomap.proofs.run_infomap.Tie as tie
-use Rattle.infomap.proofs.run_infomap.Reads as reads
-use Rattle.infomap.proofs.run_infomap.Lts as lts
-use Rattle.infomap.proofs.run_in.Reads as run-in-reads
 
 sub-run-in : tie.Need-sub-run-in
 sub-run-in c = search needs
@@ -77,8 +75,10 @@ part-best-end c = search needs
 
 run-in-requires : tie.Need-run-in-requires
 run-in-requires c κs =
-    let p = c .before .before .before .before .before .before .before .before .before .before .pre in
-    let n = length (c .before .before .before .before .before .before .before .before .before .before .args .labels .now) in
+    let c10 = c .before .before .before .before .before .before .before .before .before .before in
+    let c10 = c10 in
+    let p = c10 .pre in
+    let n = length (c10 .args .labels .now) in
     let few : n ≤ 512 = omega (arith, p .wide, p .narrow) in
     let i : length (take (n - 0) (drop 0 (replicate {A = ℕ} 512 0))) ≡ n = part-of (replicate {A = ℕ} 512 0) n few in
     let f : length (take (n - 0) (drop 0 (replicate {A = Float} 512 zero64))) ≡ n = part-of (replicate {A = Float} 512 zero64) n few in

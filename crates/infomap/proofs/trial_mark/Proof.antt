@@ -1,9 +1,7 @@
+-- `infomap::trial_mark` meets its contract. Assumes nothing.
 use Rattle.infomap.specs.Infomap.{markOf, trialMark}
-use borrow.Author.Needs.{needs}
 use Rattle.infomap.proofs.trial_mark.Statement.{statement}
 use Rattle.infomap.proofs.trial_mark.Tie as tie
-use Rattle.infomap.proofs.trial_mark.Reads as reads
-use Rattle.infomap.proofs.trial_mark.Lts as lts
 
 returns : tie.Need-returns
 unfolding markOf trialMark

@@ -1,9 +1,6 @@
-use mathlib.Core.Path.{refl}
-use borrow.Author.Needs.{needs}
+-- `map_state::add_if` meets its contract. Assumes nothing.
 use Rattle.map_state.proofs.add_if.Statement.{statement}
 use Rattle.map_state.proofs.add_if.Tie as tie
-use Rattle.map_state.proofs.add_if.Reads as reads
-use Rattle.map_state.proofs.add_if.Lts as lts
 
 returns : tie.Need-returns
 returns c = rw (c .if1 .taken)

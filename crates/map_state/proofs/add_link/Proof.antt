@@ -1,10 +1,8 @@
+-- `map_state::add_link` meets its contract. Assumes nothing.
 use borrow.Author.Tests.{eq-eqb, ne-eqb}
 use Rattle.map_state.specs.MapState.{addLink}
-use borrow.Author.Needs.{needs}
 use Rattle.map_state.proofs.add_link.Statement.{statement}
 use Rattle.map_state.proofs.add_link.Tie as tie
-use Rattle.map_state.proofs.add_link.Reads as reads
-use Rattle.map_state.proofs.add_link.Lts as lts
 
 returns : tie.Need-returns
 unfolding addLink

@@ -1,8 +1,6 @@
-use borrow.Author.Needs.{needs}
+-- `map_state::add_weight` meets its contract. Assumes nothing.
 use Rattle.map_state.proofs.add_weight.Statement.{statement}
 use Rattle.map_state.proofs.add_weight.Tie as tie
-use Rattle.map_state.proofs.add_weight.Reads as reads
-use Rattle.map_state.proofs.add_weight.Lts as lts
 
 returns : tie.Need-returns
 returns c = rw (c .if1 .taken)

@@ -1,3 +1,4 @@
+-- `map_state::add_weights` meets its contract. The loop: what is left to add, added to the sum so far, is the whole sum. Assumes nothing.
 use mathlib.Core.Path.{_≡_, refl, _∙_}
 use Prim.Native.Nat.{_-_}
 use lib.ListN.{length, drop}
@@ -6,9 +7,6 @@ use Rattle.map_state.proofs.Rows.{weights-on, weights-end}
 use borrow.Author.Needs.{needs}
 use Rattle.map_state.proofs.add_weights.Statement.{statement}
 use Rattle.map_state.proofs.add_weights.Tie as tie
-use Rattle.map_state.proofs.add_weights.Reads as reads
-use Rattle.map_state.proofs.add_weights.Lts as lts
-use Rattle.map_state.proofs.add_weight.Reads as add-weight-reads
 
 abbrev Inv-loop : tie.InvT-loop
 Inv-loop row start a₀ v₀ a v = addWeights a (drop v row) ≡ addWeights start row

@@ -1,10 +1,9 @@
+-- `map_state::after_move` meets its contract. Assumes nothing.
 use mathlib.Core.Path.{refl}
 use Rattle.map_state.specs.MapState.{afterMove}
 use borrow.Author.Needs.{needs}
 use Rattle.map_state.proofs.after_move.Statement.{statement}
 use Rattle.map_state.proofs.after_move.Tie as tie
-use Rattle.map_state.proofs.after_move.Reads as reads
-use Rattle.map_state.proofs.after_move.Lts as lts
 
 sub-t9 : tie.Need-sub-t9
 sub-t9 c = search needs

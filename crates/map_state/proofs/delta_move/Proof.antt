@@ -1,12 +1,8 @@
-use mathlib.Core.Path.{_≡_, refl, sym, _∙_, ap}
+-- `map_state::delta_move` meets its contract. Assumes nothing.
 use Rattle.map_state.specs.MapState.{deltaFrom}
 use borrow.Author.Needs.{needs}
 use Rattle.map_state.proofs.delta_move.Statement.{statement}
 use Rattle.map_state.proofs.delta_move.Tie as tie
-use Rattle.map_state.proofs.delta_move.Reads as reads
-use Rattle.map_state.proofs.delta_move.Lts as lts
-use Rattle.map_state.proofs.move_of.Reads as move-of-reads
-use Rattle.map_state.proofs.module_pair_delta_l.Reads as module-pair-delta-l-reads
 
 move-of-requires : tie.Need-move-of-requires
 move-of-requires c κs = search needs

@@ -1,10 +1,8 @@
+-- `map_state::first_after` meets its contract. Assumes nothing.
 use borrow.Author.Tests.{eq-eqb, ne-eqb}
 use Rattle.map_state.specs.Arrays.{firstAfter}
-use borrow.Author.Needs.{needs}
 use Rattle.map_state.proofs.first_after.Statement.{statement}
 use Rattle.map_state.proofs.first_after.Tie as tie
-use Rattle.map_state.proofs.first_after.Reads as reads
-use Rattle.map_state.proofs.first_after.Lts as lts
 
 returns : tie.Need-returns
 unfolding firstAfter

@@ -1,3 +1,4 @@
+-- `map_state::link_weights` meets its contract. The loop: what is left to add, added to the weights so far, is the whole. Assumes nothing.
 use mathlib.Core.Path.{_≡_, refl, sym, _∙_}
 use Prim.Native.Nat.{_-_}
 use lib.ListN.{length, drop}
@@ -6,9 +7,6 @@ use Rattle.map_state.proofs.Loops.{link-on, link-end}
 use borrow.Author.Needs.{needs}
 use Rattle.map_state.proofs.link_weights.Statement.{statement}
 use Rattle.map_state.proofs.link_weights.Tie as tie
-use Rattle.map_state.proofs.link_weights.Reads as reads
-use Rattle.map_state.proofs.link_weights.Lts as lts
-use Rattle.map_state.proofs.add_link.Reads as add-link-reads
 
 abbrev Inv-loop : tie.InvT-loop
 Inv-loop part row g h l₀ v₀ l v = linkWeightsFrom g h l (drop v part) (drop v row) ≡ linkWeights g h part row
@@ -41,7 +39,10 @@ loop-less : tie.Need-loop-less Inv-loop μ-loop
 loop-less c = search needs
 
 loop-again : tie.Need-loop-again Inv-loop μ-loop
-loop-again c = link-on _ _ _ _ _ _ _ (c .before .before .before .loop-test .taken) (c .before .before .before .before .before .before .before .pre) (c .add-link .ensures) ∙ c .before .before .before .before .loop .inv
+loop-again c =
+    let c4 = c .before .before .before .before in
+    let c7 = c4 .before .before .before in
+    link-on _ _ _ _ _ _ _ (c .before .before .before .loop-test .taken) (c7 .pre) (c .add-link .ensures) ∙ c4 .loop .inv
 
 returns : tie.Need-returns Inv-loop μ-loop
 returns c = sym (link-end _ _ _ _ _ _ (c .loop-test .left)) ∙ c .before .loop .inv

@@ -1,4 +1,5 @@
-use mathlib.Core.Path.{_≡_, refl, sym, _∙_}
+-- `map_state::lowest` meets its contract. The loop: no node below v is in the group. Assumes nothing.
+use mathlib.Core.Path.{_≡_}
 use Prim.Native.Nat.{_-_, _+_}
 use native.Mathlib.Omega.{arith}
 use lib.ListN.{length, drop}
@@ -7,8 +8,6 @@ use Rattle.map_state.proofs.Loops.{lowest-hit, lowest-skip, lowest-end}
 use borrow.Author.Needs.{needs}
 use Rattle.map_state.proofs.lowest.Statement.{statement}
 use Rattle.map_state.proofs.lowest.Tie as tie
-use Rattle.map_state.proofs.lowest.Reads as reads
-use Rattle.map_state.proofs.lowest.Lts as lts
 
 abbrev Inv-loop : tie.InvT-loop
 Inv-loop part g v₀ v = v + lowest g (drop v part) ≡ lowest g part
@@ -26,7 +25,10 @@ shared-slice-read-if1 : tie.Need-shared-slice-read-if1 Inv-loop μ-loop
 shared-slice-read-if1 c = search needs
 
 returns : tie.Need-returns Inv-loop μ-loop
-returns c = omega (arith, lowest-hit (c .before .before .before .before .args .g) (c .before .before .before .before .args .partition .now) (c .before .before .before .loop .v) (c .before .before .loop-test .taken) (c .if1 .taken))
+returns c =
+    let c4 = c .before .before .before .before in
+    let c4 = c4 in
+    omega (arith, lowest-hit (c4 .args .g) (c4 .args .partition .now) (c .before .before .before .loop .v) (c .before .before .loop-test .taken) (c .if1 .taken))
 
 add-v : tie.Need-add-v Inv-loop μ-loop
 add-v c = search needs
@@ -35,7 +37,10 @@ loop-less : tie.Need-loop-less Inv-loop μ-loop
 loop-less c = search needs
 
 loop-again : tie.Need-loop-again Inv-loop μ-loop
-loop-again c = omega (arith, lowest-skip (c .before .before .before .before .args .g) (c .before .before .before .before .args .partition .now) (c .before .before .before .loop .v) (c .before .before .loop-test .taken) (c .if1 .left))
+loop-again c =
+    let c4 = c .before .before .before .before in
+    let c4 = c4 in
+    omega (arith, lowest-skip (c4 .args .g) (c4 .args .partition .now) (c .before .before .before .loop .v) (c .before .before .loop-test .taken) (c .if1 .left))
 
 returns-2 : tie.Need-returns-2 Inv-loop μ-loop
 returns-2 c = omega (arith, lowest-end (c .before .before .args .g) (c .before .before .args .partition .now) (c .before .loop .v) (c .loop-test .left))

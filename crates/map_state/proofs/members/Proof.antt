@@ -1,4 +1,5 @@
-use mathlib.Core.Path.{_≡_, refl, sym, _∙_}
+-- `map_state::members` meets its contract. The loop has counted the members below v. Assumes nothing.
+use mathlib.Core.Path.{_≡_}
 use mathlib.Core.Logic.{⊎-elim}
 use Prim.Native.Nat.{_-_, _+_, _≤_}
 use native.Mathlib.Omega.{arith}
@@ -8,8 +9,6 @@ use Rattle.map_state.proofs.Loops.{count-hit, count-skip, count-end}
 use borrow.Author.Needs.{needs}
 use Rattle.map_state.proofs.members.Statement.{statement}
 use Rattle.map_state.proofs.members.Tie as tie
-use Rattle.map_state.proofs.members.Reads as reads
-use Rattle.map_state.proofs.members.Lts as lts
 
 abbrev Inv-loop : tie.InvT-loop
 Inv-loop part g n₀ v₀ n v = (n + count g (drop v part) ≡ count g part) × (n ≤ v)
@@ -36,9 +35,12 @@ loop-less : tie.Need-loop-less Inv-loop μ-loop
 loop-less c = search needs
 
 loop-again : tie.Need-loop-again Inv-loop μ-loop
-loop-again c = ⊎-elim
-    (λ w. rw (w .1) (omega (arith, count-hit (c .before .before .before .before .args .g) (c .before .before .before .before .args .partition .now) (c .before .before .before .loop .v) (c .before .before .loop-test .taken) (w .0 .taken)), omega arith))
-    (λ w. rw (w .1) (omega (arith, count-skip (c .before .before .before .before .args .g) (c .before .before .before .before .args .partition .now) (c .before .before .before .loop .v) (c .before .before .loop-test .taken) (w .0 .left)), omega arith))
+loop-again c =
+    let c4 = c .before .before .before .before in
+    let c4 = c4 in
+    ⊎-elim
+    (λ w. rw (w .1) (omega (arith, count-hit (c4 .args .g) (c4 .args .partition .now) (c .before .before .before .loop .v) (c .before .before .loop-test .taken) (w .0 .taken)), omega arith))
+    (λ w. rw (w .1) (omega (arith, count-skip (c4 .args .g) (c4 .args .partition .now) (c .before .before .before .loop .v) (c .before .before .loop-test .taken) (w .0 .left)), omega arith))
     (c .if1 .came)
 
 returns : tie.Need-returns Inv-loop μ-loop

@@ -1,11 +1,8 @@
+-- `map_state::module_pair_delta_l` meets its contract. Assumes nothing.
 use Rattle.map_state.specs.MapState.{modulePairDelta}
 use borrow.Author.Needs.{needs}
 use Rattle.map_state.proofs.module_pair_delta_l.Statement.{statement}
 use Rattle.map_state.proofs.module_pair_delta_l.Tie as tie
-use Rattle.map_state.proofs.module_pair_delta_l.Reads as reads
-use Rattle.map_state.proofs.module_pair_delta_l.Lts as lts
-use Rattle.float.proofs.plogp.Reads as plogp-reads
-use Rattle.map_state.proofs.module_terms.Reads as module-terms-reads
 
 plogp-requires : tie.Need-plogp-requires
 plogp-requires c κs = search needs
@@ -27,7 +24,11 @@ module-terms-requires-4 c κs = search needs
 
 returns : tie.Need-returns
 unfolding modulePairDelta
-returns c = rw (c .module-terms4 .ensures, c .before .module-terms3 .ensures, c .before .before .plogp2 .ensures, c .before .before .before .before .module-terms2 .ensures, c .before .before .before .before .before .module-terms .ensures, c .before .before .before .before .before .before .plogp .ensures)
+returns c =
+    let c4 = c .before .before .before .before in
+    let c5 = c4 .before in
+    let c6 = c5 .before in
+    rw (c .module-terms4 .ensures, c .before .module-terms3 .ensures, c .before .before .plogp2 .ensures, c4 .module-terms2 .ensures, c5 .module-terms .ensures, c6 .plogp .ensures)
 
 pub module-pair-delta-l-spec : {M : Type 1} → statement M
 module-pair-delta-l-spec =

@@ -1,11 +1,9 @@
+-- `map_state::module_terms` meets its contract. Assumes nothing.
 use borrow.Author.Tests.{eq-eqb, ne-eqb}
 use Rattle.map_state.specs.MapState.{moduleTerms}
 use borrow.Author.Needs.{needs}
 use Rattle.map_state.proofs.module_terms.Statement.{statement}
 use Rattle.map_state.proofs.module_terms.Tie as tie
-use Rattle.map_state.proofs.module_terms.Reads as reads
-use Rattle.map_state.proofs.module_terms.Lts as lts
-use Rattle.float.proofs.plogp.Reads as plogp-reads
 
 returns : tie.Need-returns
 unfolding moduleTerms

@@ -1,14 +1,10 @@
-use mathlib.Core.Path.{_≡_, refl, sym, _∙_, ap}
+-- `map_state::move_of` meets its contract. Assumes nothing.
 use native.Mathlib.Nat.{add-sub-cancel-left}
 use Rattle.map_state.specs.MapState.{movedFrom}
 use Rattle.map_state.specs.Network.{row}
 use borrow.Author.Needs.{needs}
 use Rattle.map_state.proofs.move_of.Statement.{statement}
 use Rattle.map_state.proofs.move_of.Tie as tie
-use Rattle.map_state.proofs.move_of.Reads as reads
-use Rattle.map_state.proofs.move_of.Lts as lts
-use Rattle.map_state.proofs.after_move.Reads as after-move-reads
-use Rattle.map_state.proofs.link_weights.Reads as link-weights-reads
 
 mul-a : tie.Need-mul-a
 mul-a c = search needs
@@ -48,7 +44,10 @@ after-move-requires c κs = search needs
 
 returns : tie.Need-returns
 unfolding movedFrom row
-returns c = λ d. rw (c .after-move .ensures, c .before .before .link-weights .ensures, add-sub-cancel-left, c .before .before .before .before .before .before .before .before .pre .0 .nodes)
+returns c =
+    let c8 = c .before .before .before .before .before .before .before .before in
+    let c8 = c8 in
+    λ d. rw (c .after-move .ensures, c .before .before .link-weights .ensures, add-sub-cancel-left, c8 .pre .0 .nodes)
 
 pub move-of-spec : {M : Type 1} → statement M
 move-of-spec =

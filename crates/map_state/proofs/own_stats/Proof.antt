@@ -1,15 +1,12 @@
-use mathlib.Core.Path.{_≡_, refl, sym, _∙_, ap}
+-- `map_state::own_stats` meets its contract. Assumes nothing.
+use mathlib.Core.Path.{_≡_, _∙_}
 use native.Mathlib.Omega.{arith}
-use lib.ListN.{length, getD}
+use lib.ListN.{getD}
 use Rattle.map_state.specs.MapState.{lowest}
 use Rattle.map_state.proofs.Leaders.{firsts-of, lowest-of}
 use borrow.Author.Needs.{needs}
 use Rattle.map_state.proofs.own_stats.Statement.{statement}
 use Rattle.map_state.proofs.own_stats.Tie as tie
-use Rattle.map_state.proofs.own_stats.Reads as reads
-use Rattle.map_state.proofs.own_stats.Lts as lts
-use Rattle.map_state.proofs.stats_at.Reads as stats-at-reads
-use Rattle.map_state.proofs.wide.Reads as wide-reads
 
 mul-wide : tie.Need-mul-wide
 mul-wide c = search needs
@@ -28,9 +25,11 @@ shared-slice-read-stats-at c = search needs
 
 stats-at-requires : tie.Need-stats-at-requires
 stats-at-requires c κs =
-    let a = c .before .before .before .before .before .before .before .args in
-    let e : c .before .wide .result ≡ lowest (getD (a .partition .now) (a .v) 0) (a .partition .now) = c .before .wide .ensures ∙ firsts-of (a .partition .now) (a .first .now) (c .before .before .before .before .before .before .before .pre .5) (a .v) (c .before .before .before .before .before .before .before .pre .4) in
-    (c .before .before .before .before .before .before .before .pre .0, c .before .before .before .before .before .before .before .pre .2, c .before .before .before .before .before .before .before .pre .3, omega (arith, lowest-of (a .partition .now) (a .v) (c .before .before .before .before .before .before .before .pre .4)), e)
+    let c7 = c .before .before .before .before .before .before .before in
+    let c7 = c7 in
+    let a = c7 .args in
+    let e : c .before .wide .result ≡ lowest (getD (a .partition .now) (a .v) 0) (a .partition .now) = c .before .wide .ensures ∙ firsts-of (a .partition .now) (a .first .now) (c7 .pre .5) (a .v) (c7 .pre .4) in
+    (c7 .pre .0, c7 .pre .2, c7 .pre .3, omega (arith, lowest-of (a .partition .now) (a .v) (c7 .pre .4)), e)
 
 returns : tie.Need-returns
 returns c = search needs

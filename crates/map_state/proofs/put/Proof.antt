@@ -1,10 +1,9 @@
+-- `map_state::put` meets its contract. Assumes nothing.
 use mathlib.Core.Path.{sym}
 use lib.Seq.{set-out}
 use borrow.Author.Needs.{needs}
 use Rattle.map_state.proofs.put.Statement.{statement}
 use Rattle.map_state.proofs.put.Tie as tie
-use Rattle.map_state.proofs.put.Reads as reads
-use Rattle.map_state.proofs.put.Lts as lts
 
 mul-xs : tie.Need-mul-xs
 mul-xs c = search needs

@@ -1,17 +1,13 @@
-use mathlib.Core.Path.{_≡_, refl, sym, _∙_, ap}
-use Prim.Native.Nat.{ℕ, _-_, _+_, _≤_, _<_}
+-- `map_state::renew_first` meets its contract. The loop has given the nodes below v their lowest members, and the others keep theirs. Assumes nothing.
+use mathlib.Core.Path.{_≡_, refl, _∙_, ap}
+use Prim.Native.Nat.{ℕ, _-_, _≤_, _<_}
 use native.Mathlib.Omega.{arith}
-use native.Mathlib.Decide.{ℕ-discrete}
-use lib.ListN.{length, getD, set, length-set}
-use lib.Seq.{getD-set-same, getD-set-other}
+use lib.ListN.{length, getD, length-set}
 use Rattle.map_state.specs.Arrays.{firstAfter}
-use Rattle.map_state.proofs.Loops.{map-below, map-above}
+use Rattle.rng.proofs.Stores.{stored-below, stored-above}
 use borrow.Author.Needs.{needs}
 use Rattle.map_state.proofs.renew_first.Statement.{statement}
 use Rattle.map_state.proofs.renew_first.Tie as tie
-use Rattle.map_state.proofs.renew_first.Reads as reads
-use Rattle.map_state.proofs.renew_first.Lts as lts
-use Rattle.map_state.proofs.first_after.Reads as first-after-reads
 
 abbrev Inv-loop : tie.InvT-loop
 Inv-loop part first₀ g a h b v₀ first v = ((k : ℕ) → k < v → getD first k 0 ≡ firstAfter (getD part k 0) g a h b (getD first₀ k 0)) × ((k : ℕ) → v ≤ k → getD first k 0 ≡ getD first₀ k 0) × (length first ≡ length part)
@@ -51,11 +47,13 @@ loop-less c = search needs
 
 loop-again : tie.Need-loop-again Inv-loop μ-loop
 loop-again c =
-    let l = c .before .before .before .before .loop in
-    let a = c .before .before .before .before .before .before .before .args in (
-      map-below _ (l .first) (l .v) (c .first-after .result) (omega arith) (λ k. firstAfter (getD (a .partition .now) k 0) (a .g) (a .a) (a .h) (a .b) (getD (a .first .now) k 0)) (l .inv .0)
+    let c4 = c .before .before .before .before in
+    let c7 = c4 .before .before .before in
+    let l = c4 .loop in
+    let a = c7 .args in (
+      stored-below _ (l .first) (l .v) (c .first-after .result) (omega arith) (λ k. firstAfter (getD (a .partition .now) k 0) (a .g) (a .a) (a .h) (a .b) (getD (a .first .now) k 0)) (l .inv .0)
           (c .first-after .ensures ∙ ap (λ (z : ℕ). firstAfter (getD (a .partition .now) (l .v) 0) (a .g) (a .a) (a .h) (a .b) z) (l .inv .1 (l .v) (omega arith))),
-      map-above _ (l .first) (l .v) (c .first-after .result) (λ k. getD (a .first .now) k 0) (l .inv .1),
+      stored-above _ (l .first) (l .v) (c .first-after .result) (λ k. getD (a .first .now) k 0) (l .inv .1),
       simp length-set (omega arith),
     )
 

@@ -1,4 +1,5 @@
-use mathlib.Core.Path.{_≡_, sym, ap, _∙_}
+-- `map_state::stats_at` meets its contract. Assumes nothing.
+use mathlib.Core.Path.{sym}
 use lib.Ieee.{nan}
 use native.Mathlib.Omega.{arith}
 use Rattle.float.specs.Binary64.{zero64}
@@ -7,9 +8,6 @@ use Rattle.map_state.proofs.Leaders.{getD-any}
 use borrow.Author.Needs.{needs}
 use Rattle.map_state.proofs.stats_at.Statement.{statement}
 use Rattle.map_state.proofs.stats_at.Tie as tie
-use Rattle.map_state.proofs.stats_at.Reads as reads
-use Rattle.map_state.proofs.stats_at.Lts as lts
-use Rattle.map_state.proofs.members.Reads as members-reads
 
 mul-t6 : tie.Need-mul-t6
 mul-t6 c = search needs
@@ -29,8 +27,9 @@ members-requires c κs = search needs
 returns : tie.Need-returns
 unfolding statsAt
 returns c =
-    let a = c .before .before .before .before .before .before .args in
-    rw (c .members .ensures, sym (c .before .before .before .before .before .before .pre .4), getD-any (a .exits .now) (a .slot) nan zero64 (omega arith), getD-any (a .strengths .now) (a .slot) nan zero64 (omega arith))
+    let c6 = c .before .before .before .before .before .before in
+    let a = c6 .args in
+    rw (c .members .ensures, sym (c6 .pre .4), getD-any (a .exits .now) (a .slot) nan zero64 (omega arith), getD-any (a .strengths .now) (a .slot) nan zero64 (omega arith))
 
 pub stats-at-spec : {M : Type 1} → statement M
 stats-at-spec =

@@ -1,4 +1,5 @@
-use mathlib.Core.Path.{_≡_, refl, sym, _∙_, ap}
+-- `map_state::sum_q` meets its contract. The loop: the groups whose lowest member is v or higher, added to the sum so far, give Q. Assumes nothing.
+use mathlib.Core.Path.{_≡_, _∙_, ap}
 use mathlib.Core.Bool.{cond}
 use Prim.Native.Nat.{ℕ, _-_}
 use lib.ListN.{length, getD}
@@ -11,10 +12,6 @@ use Rattle.map_state.proofs.Leaders.{q-on, q-end}
 use borrow.Author.Needs.{needs}
 use Rattle.map_state.proofs.sum_q.Statement.{statement}
 use Rattle.map_state.proofs.sum_q.Tie as tie
-use Rattle.map_state.proofs.sum_q.Reads as reads
-use Rattle.map_state.proofs.sum_q.Lts as lts
-use Rattle.map_state.proofs.add_if.Reads as add-if-reads
-use Rattle.map_state.proofs.wide.Reads as wide-reads
 
 abbrev Inv-loop : tie.InvT-loop
 Inv-loop part first exit d a₀ v₀ a v = sumQFrom d part exit a v (length part - v) ≡ sumQ d part exit
@@ -52,9 +49,12 @@ loop-less c = search needs
 
 loop-again : tie.Need-loop-again Inv-loop μ-loop
 loop-again c =
-    let a = c .before .before .before .before .before .before .before .before .before .args in
-    let l = c .before .before .before .before .before .loop in
-    q-on (a .d) (a .partition .now) (a .first .now) (a .exits .now) (l .a) _ (l .v) (c .before .before .before .before .before .before .before .before .before .pre .2) (c .before .before .before .before .loop-test .taken)
+    let c4 = c .before .before .before .before in
+    let c5 = c4 .before in
+    let c9 = c5 .before .before .before .before in
+    let a = c9 .args in
+    let l = c5 .loop in
+    q-on (a .d) (a .partition .now) (a .first .now) (a .exits .now) (l .a) _ (l .v) (c9 .pre .2) (c4 .loop-test .taken)
     (c .add-if .ensures ∙ ap (λ (z : ℕ). cond (eqb z (l .v)) (add64 (l .a) (div64 (getD (a .exits .now) (l .v) nan) (a .d))) (l .a)) (c .before .before .wide .ensures)) ∙ l .inv
 
 returns : tie.Need-returns Inv-loop μ-loop

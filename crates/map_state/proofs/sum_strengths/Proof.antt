@@ -1,20 +1,17 @@
+-- `map_state::sum_strengths` meets its contract. The loop has written the strengths of the nodes below u. Assumes nothing.
 use mathlib.Core.Path.{_≡_, refl, _∙_, ap}
-use Prim.Native.Nat.{ℕ, _-_, _+_, _*_, _<_, _≤_}
+use Prim.Native.Nat.{ℕ, _-_, _*_, _<_}
 use native.Mathlib.Nat.{add-sub-cancel-left}
 use native.Mathlib.Omega.{arith}
-use mathlib.Core.List.{List}
 use lib.ListN.{length, getD, take, drop, length-set}
-use lib.Ieee.{Float, nan}
+use lib.Ieee.{nan}
 use Rattle.float.specs.Binary64.{zero64}
 use Rattle.map_state.specs.Network.{addWeights, rowAt}
 use Rattle.map_state.proofs.Rows.{row-inside, is-strengths}
-use Rattle.map_state.proofs.Loops.{map-below}
+use Rattle.rng.proofs.Stores.{stored-below}
 use borrow.Author.Needs.{needs}
 use Rattle.map_state.proofs.sum_strengths.Statement.{statement}
 use Rattle.map_state.proofs.sum_strengths.Tie as tie
-use Rattle.map_state.proofs.sum_strengths.Reads as reads
-use Rattle.map_state.proofs.sum_strengths.Lts as lts
-use Rattle.map_state.proofs.add_weights.Reads as add-weights-reads
 
 abbrev Inv-loop : tie.InvT-loop
 Inv-loop table stride strength₀ n u₀ strength u = ((k : ℕ) → k < u → getD strength k nan ≡ addWeights zero64 (rowAt table stride (length strength₀) k)) × (length strength ≡ length strength₀) × (n ≡ length strength₀)
@@ -60,9 +57,11 @@ loop-less c = search needs
 
 loop-again : tie.Need-loop-again Inv-loop μ-loop
 loop-again c =
-    let a = c .before .before .before .before .before .before .args in
+    let c6 = c .before .before .before .before .before .before in
+    let c6 = c6 in
+    let a = c6 .args in
     let l = c .before .before .before .loop in (
-      map-below _ (l .strength) (l .u) (c .add-weights .result) (omega arith) (λ k. addWeights zero64 (rowAt (a .table .now) (a .stride) (length (a .strength .now)) k)) (l .inv .0)
+      stored-below _ (l .strength) (l .u) (c .add-weights .result) (omega arith) (λ k. addWeights zero64 (rowAt (a .table .now) (a .stride) (length (a .strength .now)) k)) (l .inv .0)
           (c .add-weights .ensures ∙ ap (λ (z : ℕ). addWeights zero64 (take z (drop (l .u * a .stride) (a .table .now)))) (add-sub-cancel-left (l .u * a .stride) _)),
       simp length-set (omega arith),
       l .inv .2,

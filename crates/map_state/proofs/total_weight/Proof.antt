@@ -1,16 +1,13 @@
-use mathlib.Core.Path.{_≡_, refl, _∙_, ap}
-use Prim.Native.Nat.{ℕ, _-_, _+_, _*_, _<_, _≤_}
+-- `map_state::total_weight` meets its contract. The loop: the links of the nodes from u on, added to the sum so far, give the total. Assumes nothing.
+use mathlib.Core.Path.{_≡_, _∙_}
+use Prim.Native.Nat.{_-_}
 use native.Mathlib.Nat.{sub-zero}
 use native.Mathlib.Omega.{arith}
-use lib.ListN.{length}
 use Rattle.map_state.specs.Network.{totalFrom, totalWeight}
 use Rattle.map_state.proofs.Rows.{row-inside, row-above, total-on, total-end}
 use borrow.Author.Needs.{needs}
 use Rattle.map_state.proofs.total_weight.Statement.{statement}
 use Rattle.map_state.proofs.total_weight.Tie as tie
-use Rattle.map_state.proofs.total_weight.Reads as reads
-use Rattle.map_state.proofs.total_weight.Lts as lts
-use Rattle.map_state.proofs.add_weights.Reads as add-weights-reads
 
 abbrev Inv-loop : tie.InvT-loop
 Inv-loop table stride n t₀ u₀ t u = totalFrom table stride n t u (n - u) ≡ totalWeight table stride n
@@ -59,7 +56,9 @@ loop-less c = search needs
 
 loop-again : tie.Need-loop-again Inv-loop μ-loop
 loop-again c =
-    let a = c .before .before .before .before .before .args in
+    let c5 = c .before .before .before .before .before in
+    let c5 = c5 in
+    let a = c5 .args in
     let l = c .before .before .before .loop in
     total-on (a .table .now) (a .stride) (a .n) (l .t) _ (l .u) (c .before .before .loop-test .taken) (row-above (a .table .now) (a .stride) (a .n) (l .u) (c .before .before .loop-test .taken)) (c .add-weights .ensures) ∙ l .inv
 

@@ -1,15 +1,10 @@
-use mathlib.Core.Path.{_≡_, refl, sym, _∙_}
+-- `optimize::act` meets its contract. Assumes nothing.
 use Rattle.map_state.specs.Arrays.{netOf}
 use Rattle.optimize.specs.Rounds.{passOf}
 use Rattle.optimize.proofs.Passes.{act-stay, act-move}
 use borrow.Author.Needs.{needs}
 use Rattle.optimize.proofs.act.Statement.{statement}
 use Rattle.optimize.proofs.act.Tie as tie
-use Rattle.optimize.proofs.act.Reads as reads
-use Rattle.optimize.proofs.act.Lts as lts
-use Rattle.map_state.proofs.apply_move.Reads as apply-move-reads
-use Rattle.map_state.proofs.find_stats.Reads as find-stats-reads
-use Rattle.map_state.proofs.own_stats.Reads as own-stats-reads
 
 enum-told : tie.Need-enum-told
 enum-told c = search needs
@@ -28,8 +23,10 @@ apply-move-requires c κs = search needs
 
 returns : tie.Need-returns
 returns c =
-    let a = c .before .before .before .before .before .before .before .before .args in
-    (act-stay (netOf (a .table .now) (a .stride) (a .strength .now) (a .d)) (passOf (a .partition .now) (a .exits .now) (a .strengths .now) (a .w)) (a .u) (c .enum-told .given .1), c .before .before .before .before .before .before .before .before .pre .2)
+    let c8 = c .before .before .before .before .before .before .before .before in
+    let c8 = c8 in
+    let a = c8 .args in
+    (act-stay (netOf (a .table .now) (a .stride) (a .strength .now) (a .d)) (passOf (a .partition .now) (a .exits .now) (a .strengths .now) (a .w)) (a .u) (c .enum-told .given .1), c8 .pre .2)
 
 same-length : tie.Need-same-length
 same-length c = search needs
@@ -45,8 +42,12 @@ same-length-4 c = search needs
 
 returns-2 : tie.Need-returns-2
 returns-2 c =
-    let a = c .before .before .before .before .before .before .before .before .before .before .before .before .before .before .before .before .before .before .before .before .before .before .before .before .before .before .before .before .before .before .before .args in
-    (act-move (netOf (a .table .now) (a .stride) (a .strength .now) (a .d)) (passOf (a .partition .now) (a .exits .now) (a .strengths .now) (a .w)) (a .u) _ _ (c .before .before .before .before .before .before .before .before .before .before .before .before .before .before .before .before .before .before .before .before .before .before .before .a .given .1) (c .before .before .before .before .before .before .before .before .apply-move .ensures .0 (a .w .q)), c .before .before .before .before .before .before .before .before .apply-move .ensures .1)
+    let c8 = c .before .before .before .before .before .before .before .before in
+    let c8 = c8 in
+    let c23 = c8 .before .before .before .before .before .before .before .before .before .before .before .before .before .before .before in
+    let c31 = c23 .before .before .before .before .before .before .before .before in
+    let a = c31 .args in
+    (act-move (netOf (a .table .now) (a .stride) (a .strength .now) (a .d)) (passOf (a .partition .now) (a .exits .now) (a .strengths .now) (a .w)) (a .u) _ _ (c23 .a .given .1) (c8 .apply-move .ensures .0 (a .w .q)), c8 .apply-move .ensures .1)
 
 pub act-spec : {M : Type 1} → statement M
 act-spec =

@@ -1,21 +1,16 @@
-use mathlib.Core.Path.{_≡_, refl, sym, _∙_, ap, subst}
+-- `optimize::move_pass` meets its contract. The loop: the pass over the nodes from i on, from the state so far, is the whole pass. Assumes nothing.
+use mathlib.Core.Path.{_≡_, refl, _∙_}
 use native.Mathlib.Omega.{arith}
-use Prim.Native.Nat.{ℕ, _-_, _+_, _≤_, _<_}
-use lib.ListN.{length, getD, drop}
-use Rattle.map_state.specs.Arrays.{netOf, stateOf, Firsts, Sized}
-use Rattle.scan.specs.Scan.{scan, isolate}
-use Rattle.optimize.specs.Rounds.{Pass, passOf, pass, act, AtMost}
+use Prim.Native.Nat.{_-_, _≤_}
+use lib.ListN.{length, drop}
+use Rattle.map_state.specs.Arrays.{netOf, Firsts, Sized}
+use Rattle.scan.specs.Scan.{scan}
+use Rattle.optimize.specs.Rounds.{passOf, pass, act}
 use Rattle.rng.proofs.Visits.{below-at}
 use Rattle.optimize.proofs.Passes.{pass-on, pass-end, sized-kept}
-use Rattle.optimize.proofs.Numbers.{highest-le, act-isolate-at-most}
 use borrow.Author.Needs.{needs}
 use Rattle.optimize.proofs.move_pass.Statement.{statement}
 use Rattle.optimize.proofs.move_pass.Tie as tie
-use Rattle.optimize.proofs.move_pass.Reads as reads
-use Rattle.optimize.proofs.move_pass.Lts as lts
-use Rattle.map_state.proofs.wide.Reads as wide-reads
-use Rattle.optimize.proofs.act.Reads as act-reads
-use Rattle.scan.proofs.scan_node.Reads as scan-node-reads
 
 abbrev Inv-loop : tie.InvT-loop
 Inv-loop table m strength d part₀ first₀ exits₀ strengths₀ order w₀ i₀ part first exit strengths w i = (pass scan (netOf table m strength d) (passOf part exit strengths w) (drop i order) ≡ pass scan (netOf table m strength d) (passOf part₀ exits₀ strengths₀ w₀) order) × (Sized table m strength part first exit strengths) × (Firsts part first) × (length part ≡ length part₀) × (length first ≡ length first₀) × (length exit ≡ length exits₀) × (length strengths ≡ length strengths₀) × (i ≤ length order)
@@ -24,7 +19,9 @@ abbrev μ-loop : tie.MeasureT-loop
 μ-loop table m strength d part₀ first₀ exits₀ strengths₀ order w₀ i₀ part first exit strengths w i = length order - i
 
 loop-holds : tie.Need-loop-holds Inv-loop μ-loop
-loop-holds c = (refl, c .before .before .before .before .before .before .before .pre .0, c .before .before .before .before .before .before .before .pre .1, refl, refl, refl, refl, omega arith)
+loop-holds c =
+    let c7 = c .before .before .before .before .before .before .before in
+    (refl, c7 .pre .0, c7 .pre .1, refl, refl, refl, refl, omega arith)
 
 mul-wide : tie.Need-mul-wide Inv-loop μ-loop
 mul-wide c = search needs
@@ -36,28 +33,50 @@ wide-requires : tie.Need-wide-requires Inv-loop μ-loop
 wide-requires c κs = search needs
 
 scan-node-requires : tie.Need-scan-node-requires Inv-loop μ-loop
-scan-node-requires c κs = (c .before .before .before .before .before .before .before .loop .inv .1, omega (arith, c .before .before .before .before .wide .ensures, below-at (length (c .before .before .before .before .before .before .before .before .before .before .before .before .before .before .before .args .partition .now)) (c .before .before .before .before .before .before .before .before .before .before .before .before .before .before .before .args .order .now) (c .before .before .before .before .before .before .before .before .before .before .before .before .before .before .before .pre .2) (c .before .before .before .before .before .before .before .loop .i) (c .before .before .before .before .before .before .loop-test .taken), c .before .before .before .before .before .before .before .loop .inv .3), c .before .before .before .before .before .before .before .loop .inv .2)
+scan-node-requires c κs =
+    let c4 = c .before .before .before .before in
+    let c6 = c4 .before .before in
+    let c7 = c6 .before in
+    let c15 = c7 .before .before .before .before .before .before .before .before in
+    (c7 .loop .inv .1, omega (arith, c4 .wide .ensures, below-at (length (c15 .args .partition .now)) (c15 .args .order .now) (c15 .pre .2) (c7 .loop .i) (c6 .loop-test .taken), c7 .loop .inv .3), c7 .loop .inv .2)
 
 act-requires : tie.Need-act-requires Inv-loop μ-loop
-act-requires c κs = (c .before .before .before .before .before .before .before .before .before .before .before .before .loop .inv .1, omega (arith, c .before .before .before .before .before .before .before .before .before .wide .ensures, below-at (length (c .before .before .before .before .before .before .before .before .before .before .before .before .before .before .before .before .before .before .before .before .args .partition .now)) (c .before .before .before .before .before .before .before .before .before .before .before .before .before .before .before .before .before .before .before .before .args .order .now) (c .before .before .before .before .before .before .before .before .before .before .before .before .before .before .before .before .before .before .before .before .pre .2) (c .before .before .before .before .before .before .before .before .before .before .before .before .loop .i) (c .before .before .before .before .before .before .before .before .before .before .before .loop-test .taken), c .before .before .before .before .before .before .before .before .before .before .before .before .loop .inv .3), c .before .before .before .before .before .before .before .before .before .before .before .before .loop .inv .2)
+act-requires c κs =
+    let c9 = c .before .before .before .before .before .before .before .before .before in
+    let c9 = c9 in
+    let c11 = c9 .before .before in
+    let c12 = c11 .before in
+    let c20 = c12 .before .before .before .before .before .before .before .before in
+    (c12 .loop .inv .1, omega (arith, c9 .wide .ensures, below-at (length (c20 .args .partition .now)) (c20 .args .order .now) (c20 .pre .2) (c12 .loop .i) (c11 .loop-test .taken), c12 .loop .inv .3), c12 .loop .inv .2)
 
 add-i : tie.Need-add-i Inv-loop μ-loop
-add-i c = omega (arith, c .before .before .before .before .before .before .before .before .before .before .before .before .before .before .before .before .before .before .before .before .loop-test .taken, c .before .before .before .before .before .before .before .before .before .before .before .before .before .before .before .before .before .before .before .before .before .before .before .before .before .before .before .before .before .pre .3)
+add-i c =
+    let c20 = c .before .before .before .before .before .before .before .before .before .before .before .before .before .before .before .before .before .before .before .before in
+    let c20 = c20 in
+    let c29 = c20 .before .before .before .before .before .before .before .before .before in
+    omega (arith, c20 .loop-test .taken, c29 .pre .3)
 
 loop-less : tie.Need-loop-less Inv-loop μ-loop
 loop-less c = search needs
 
 loop-again : tie.Need-loop-again Inv-loop μ-loop
 loop-again c =
-    let a = c .before .before .before .before .before .before .before .before .before .before .before .before .before .before .before .before .before .before .before .before .before .before .before .before .before .before .before .before .before .args in
-    let l = c .before .before .before .before .before .before .before .before .before .before .before .before .before .before .before .before .before .before .before .before .before .loop in (
-      pass-on scan (netOf (a .table .now) (a .stride) (a .strength .now) (a .d)) (passOf (l .partition) (l .exits) (l .strengths) (l .w)) (a .order .now) (l .i) (c .before .before .before .before .before .before .before .before .before .before .before .before .before .before .before .before .before .before .before .before .loop-test .taken) (c .before .before .before .before .before .before .before .before .before .before .before .before .before .before .before .before .before .before .wide .ensures) (c .before .before .before .before .before .before .before .before .before .before .before .before .before .scan-node .ensures) (c .before .before .before .before .before .before .before .before .act .ensures .0) ∙ l .inv .0,
-      sized-kept (a .table .now) (a .stride) (a .strength .now) (l .partition) (l .first) (l .exits) (l .strengths) (c .before .before .before .before .before .before .before .before .act .last .1 .1 .1 .1 .0) (c .before .before .before .before .before .before .before .before .act .last .1 .1 .1 .1 .1 .0) (c .before .before .before .before .before .before .before .before .act .last .1 .1 .1 .1 .1 .1 .0) (c .before .before .before .before .before .before .before .before .act .last .1 .1 .1 .1 .1 .1 .1 .0) (l .inv .1) (c .before .before .before .before .before .before .before .before .act .kept .1 .1 .1 .1 .0) (c .before .before .before .before .before .before .before .before .act .kept .1 .1 .1 .1 .1 .0) (c .before .before .before .before .before .before .before .before .act .kept .1 .1 .1 .1 .1 .1 .0) (c .before .before .before .before .before .before .before .before .act .kept .1 .1 .1 .1 .1 .1 .1 .0),
-      c .before .before .before .before .before .before .before .before .act .ensures .1,
-      c .before .before .before .before .before .before .before .before .act .kept .1 .1 .1 .1 .0 ∙ l .inv .3,
-      c .before .before .before .before .before .before .before .before .act .kept .1 .1 .1 .1 .1 .0 ∙ l .inv .4,
-      c .before .before .before .before .before .before .before .before .act .kept .1 .1 .1 .1 .1 .1 .0 ∙ l .inv .5,
-      c .before .before .before .before .before .before .before .before .act .kept .1 .1 .1 .1 .1 .1 .1 .0 ∙ l .inv .6,
+    let c8 = c .before .before .before .before .before .before .before .before in
+    let c8 = c8 in
+    let c13 = c8 .before .before .before .before .before in
+    let c18 = c13 .before .before .before .before .before in
+    let c20 = c18 .before .before in
+    let c21 = c20 .before in
+    let c29 = c21 .before .before .before .before .before .before .before .before in
+    let a = c29 .args in
+    let l = c21 .loop in (
+      pass-on scan (netOf (a .table .now) (a .stride) (a .strength .now) (a .d)) (passOf (l .partition) (l .exits) (l .strengths) (l .w)) (a .order .now) (l .i) (c20 .loop-test .taken) (c18 .wide .ensures) (c13 .scan-node .ensures) (c8 .act .ensures .0) ∙ l .inv .0,
+      sized-kept (a .table .now) (a .stride) (a .strength .now) (l .partition) (l .first) (l .exits) (l .strengths) (c8 .act .last .1 .1 .1 .1 .0) (c8 .act .last .1 .1 .1 .1 .1 .0) (c8 .act .last .1 .1 .1 .1 .1 .1 .0) (c8 .act .last .1 .1 .1 .1 .1 .1 .1 .0) (l .inv .1) (c8 .act .kept .1 .1 .1 .1 .0) (c8 .act .kept .1 .1 .1 .1 .1 .0) (c8 .act .kept .1 .1 .1 .1 .1 .1 .0) (c8 .act .kept .1 .1 .1 .1 .1 .1 .1 .0),
+      c8 .act .ensures .1,
+      c8 .act .kept .1 .1 .1 .1 .0 ∙ l .inv .3,
+      c8 .act .kept .1 .1 .1 .1 .1 .0 ∙ l .inv .4,
+      c8 .act .kept .1 .1 .1 .1 .1 .1 .0 ∙ l .inv .5,
+      c8 .act .kept .1 .1 .1 .1 .1 .1 .1 .0 ∙ l .inv .6,
       omega arith,
     )
 
@@ -75,7 +94,9 @@ same-length-4 c = c .before .loop .inv .6
 
 returns : tie.Need-returns Inv-loop μ-loop
 returns c =
-    let a = c .before .before .before .before .before .before .before .before .before .args in
+    let c9 = c .before .before .before .before .before .before .before .before .before in
+    let c9 = c9 in
+    let a = c9 .args in
     let l = c .before .loop in
     (pass-end scan (netOf (a .table .now) (a .stride) (a .strength .now) (a .d)) (passOf (l .partition) (l .exits) (l .strengths) (l .w)) (a .order .now) (l .i) (c .loop-test .left) ∙ l .inv .0, l .inv .2)
 

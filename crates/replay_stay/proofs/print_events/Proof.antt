@@ -1,6 +1,5 @@
 -- `replay_stay::print_events` is safe and ends. Assumes nothing.
 use Prim.Native.Nat.{_≤_, _-_}
-use native.Mathlib.Omega.{arith}
 use lib.ListN.{length}
 use borrow.Author.Needs.{needs}
 use Rattle.replay_stay.proofs.print_events.Statement.{statement}

@@ -1,14 +1,13 @@
-use mathlib.Core.Path.{_≡_, refl, sym, _∙_}
+-- `rng::fill` meets its contract. The loop has written the numbers below i. Assumes nothing.
+use mathlib.Core.Path.{_≡_, refl}
 use native.Mathlib.Omega.{arith}
-use Prim.Native.Nat.{ℕ, _-_, _+_, _≤_, _<_}
+use Prim.Native.Nat.{ℕ, _-_, _≤_, _<_}
 use lib.ListN.{length, getD, length-set}
-use Rattle.rng.proofs.Visits.{set-upto}
+use Rattle.rng.proofs.Stores.{stored-below}
 use Rattle.lists.proofs.Upto.{is-upto}
 use borrow.Author.Needs.{needs}
 use Rattle.rng.proofs.fill.Statement.{statement}
 use Rattle.rng.proofs.fill.Tie as tie
-use Rattle.rng.proofs.fill.Reads as reads
-use Rattle.rng.proofs.fill.Lts as lts
 
 abbrev Inv-loop : tie.InvT-loop
 Inv-loop s₀ i₀ s i = ((k : ℕ) → k < i → getD s k 0 ≡ k) × (length s ≡ length s₀) × (i ≤ length s₀)
@@ -35,7 +34,7 @@ loop-less : tie.Need-loop-less Inv-loop μ-loop
 loop-less c = search needs
 
 loop-again : tie.Need-loop-again Inv-loop μ-loop
-loop-again c = (set-upto (c .before .loop .s) (c .before .loop .i) (c .loop-test .taken) (c .before .loop .inv .0), simp length-set (omega arith), omega arith)
+loop-again c = (stored-below _ (c .before .loop .s) (c .before .loop .i) _ (c .loop-test .taken) (λ k. k) (c .before .loop .inv .0) refl, simp length-set (omega arith), omega arith)
 
 same-length : tie.Need-same-length Inv-loop μ-loop
 same-length c = c .before .loop .inv .1

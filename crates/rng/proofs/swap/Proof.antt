@@ -1,10 +1,9 @@
+-- `rng::swap` meets its contract. Assumes nothing.
 use mathlib.Core.Path.{refl}
 use Rattle.rng.specs.Rng.{swap}
 use borrow.Author.Needs.{needs}
 use Rattle.rng.proofs.swap.Statement.{statement}
 use Rattle.rng.proofs.swap.Tie as tie
-use Rattle.rng.proofs.swap.Reads as reads
-use Rattle.rng.proofs.swap.Lts as lts
 
 mul-t : tie.Need-mul-t
 mul-t c = search needs

@@ -1,9 +1,8 @@
+-- `scan::best_delta` meets its contract. Assumes nothing.
 use Rattle.scan.specs.Scan.{bestDelta, answerOf}
 use borrow.Author.Needs.{needs}
 use Rattle.scan.proofs.best_delta.Statement.{statement}
 use Rattle.scan.proofs.best_delta.Tie as tie
-use Rattle.scan.proofs.best_delta.Reads as reads
-use Rattle.scan.proofs.best_delta.Lts as lts
 
 enum-told : tie.Need-enum-told
 enum-told c = search needs

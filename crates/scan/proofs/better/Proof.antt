@@ -1,11 +1,9 @@
+-- `scan::better` meets its contract. Assumes nothing.
 use mathlib.Core.Path.{sym}
 use Rattle.scan.specs.Scan.{better, answerOf}
 use borrow.Author.Needs.{needs}
 use Rattle.scan.proofs.better.Statement.{statement}
 use Rattle.scan.proofs.better.Tie as tie
-use Rattle.scan.proofs.better.Reads as reads
-use Rattle.scan.proofs.better.Lts as lts
-use Rattle.scan.proofs.best_delta.Reads as best-delta-reads
 
 best-delta-requires : tie.Need-best-delta-requires
 best-delta-requires c κs = search needs

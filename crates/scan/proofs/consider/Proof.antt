@@ -1,24 +1,15 @@
-use mathlib.Core.Path.{_≡_, refl, sym, _∙_, ap}
+-- `scan::consider` meets its contract. Assumes nothing.
+use mathlib.Core.Path.{_≡_, sym}
 use borrow.Author.Tests.{eq-eqb, ne-eqb}
-use native.Mathlib.Omega.{arith}
-use native.Mathlib.Nat.{add-sub-cancel-left}
-use Prim.Native.Nat.{ℕ, _-_, _+_, _*_, _^_, _≤_, _<_}
-use lib.ListN.{length, getD, take, drop}
-use lib.Ieee.{Float}
+use lib.ListN.{getD}
 use Rattle.map_state.specs.Arrays.{netOf, stateOf}
-use Rattle.map_state.specs.Network.{row}
 use Rattle.map_state.specs.MapState.{deltaMove}
-use Rattle.scan.specs.Scan.{Next, scan, consider, isolate}
+use Rattle.scan.specs.Scan.{consider}
 use Rattle.map_state.proofs.Leaders.{rowed, stats-some, stats-few}
 use Rattle.scan.proofs.Rising.{delta-move-is}
 use borrow.Author.Needs.{needs}
 use Rattle.scan.proofs.consider.Statement.{statement}
 use Rattle.scan.proofs.consider.Tie as tie
-use Rattle.scan.proofs.consider.Reads as reads
-use Rattle.scan.proofs.consider.Lts as lts
-use Rattle.map_state.proofs.delta_move.Reads as delta-move-reads
-use Rattle.map_state.proofs.own_stats.Reads as own-stats-reads
-use Rattle.scan.proofs.better.Reads as better-reads
 
 mul-h : tie.Need-mul-h
 mul-h c = search needs
@@ -41,10 +32,12 @@ own-stats-requires c κs = search needs
 
 delta-move-requires : tie.Need-delta-move-requires
 delta-move-requires c κs =
-    let a = c .before .before .before .before .before .before .before .before .before .before .args in (
-      rowed (a .table .now) (a .stride) (a .strength .now) (a .partition .now) (a .first .now) (a .exits .now) (a .strengths .now) (a .u) (c .before .before .before .before .before .before .before .before .before .before .pre .0) (c .before .before .before .before .before .before .before .before .before .before .pre .1),
-      stats-some (a .partition .now) (a .exits .now) (a .strengths .now) (a .u) (c .before .before .before .before .before .before .before .before .before .before .pre .1) (c .before .before .before .before .before .before .before .before .before .before .pre .4),
-      stats-few (a .partition .now) (a .exits .now) (a .strengths .now) _ (c .before .before .before .before .before .before .before .before .before .before .pre .0 .few) (c .own-stats .ensures),
+    let c10 = c .before .before .before .before .before .before .before .before .before .before in
+    let c10 = c10 in
+    let a = c10 .args in (
+      rowed (a .table .now) (a .stride) (a .strength .now) (a .partition .now) (a .first .now) (a .exits .now) (a .strengths .now) (a .u) (c10 .pre .0) (c10 .pre .1),
+      stats-some (a .partition .now) (a .exits .now) (a .strengths .now) (a .u) (c10 .pre .1) (c10 .pre .4),
+      stats-few (a .partition .now) (a .exits .now) (a .strengths .now) _ (c10 .pre .0 .few) (c .own-stats .ensures),
     )
 
 better-requires : tie.Need-better-requires
@@ -53,8 +46,10 @@ better-requires c κs = search needs
 returns-2 : tie.Need-returns-2
 unfolding consider
 returns-2 c =
-    let a = c .before .before .before .before .before .before .before .before .before .before .before .before .args in
-    let e : c .before .delta-move .result ≡ deltaMove (netOf (a .table .now) (a .stride) (a .strength .now) (a .d)) (stateOf (a .partition .now) (a .exits .now) (a .strengths .now) (a .q)) (a .u) (getD (a .partition .now) (a .v) 0) = delta-move-is (netOf (a .table .now) (a .stride) (a .strength .now) (a .d)) (stateOf (a .partition .now) (a .exits .now) (a .strengths .now) (a .q)) (a .u) _ (c .before .delta-move .ensures) (c .before .before .before .before .before .before .before .before .before .before .before .before .pre .4) (c .before .before .own-stats .ensures) in
+    let c12 = c .before .before .before .before .before .before .before .before .before .before .before .before in
+    let c12 = c12 in
+    let a = c12 .args in
+    let e : c .before .delta-move .result ≡ deltaMove (netOf (a .table .now) (a .stride) (a .strength .now) (a .d)) (stateOf (a .partition .now) (a .exits .now) (a .strengths .now) (a .q)) (a .u) (getD (a .partition .now) (a .v) 0) = delta-move-is (netOf (a .table .now) (a .stride) (a .strength .now) (a .d)) (stateOf (a .partition .now) (a .exits .now) (a .strengths .now) (a .q)) (a .u) _ (c .before .delta-move .ensures) (c12 .pre .4) (c .before .before .own-stats .ensures) in
     rw (ne-eqb _ _ (c .before .before .before .if1 .left), sym e) (c .better .ensures)
 
 pub consider-spec : {M : Type 1} → statement M

@@ -1,9 +1,7 @@
+-- `scan::higher` meets its contract. Assumes nothing.
 use borrow.Author.Tests.{lt-ltb, le-ltb}
-use borrow.Author.Needs.{needs}
 use Rattle.scan.proofs.higher.Statement.{statement}
 use Rattle.scan.proofs.higher.Tie as tie
-use Rattle.scan.proofs.higher.Reads as reads
-use Rattle.scan.proofs.higher.Lts as lts
 
 returns : tie.Need-returns
 returns c = rw (lt-ltb _ _ (c .if1 .taken))

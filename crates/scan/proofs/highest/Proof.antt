@@ -1,4 +1,5 @@
-use mathlib.Core.Path.{_≡_, refl, sym, _∙_}
+-- `scan::highest` meets its contract. The loop: the highest of the number so far and the groups from v on is the highest of all. Assumes nothing.
+use mathlib.Core.Path.{_≡_, refl, _∙_}
 use Prim.Native.Nat.{_-_}
 use lib.ListN.{length, drop}
 use Rattle.scan.specs.Scan.{highestFrom}
@@ -6,9 +7,6 @@ use Rattle.scan.proofs.Rising.{highest-on, highest-end}
 use borrow.Author.Needs.{needs}
 use Rattle.scan.proofs.highest.Statement.{statement}
 use Rattle.scan.proofs.highest.Tie as tie
-use Rattle.scan.proofs.highest.Reads as reads
-use Rattle.scan.proofs.highest.Lts as lts
-use Rattle.scan.proofs.higher.Reads as higher-reads
 
 abbrev Inv-loop : tie.InvT-loop
 Inv-loop part m₀ v₀ m v = highestFrom m (drop v part) ≡ highestFrom 0 part

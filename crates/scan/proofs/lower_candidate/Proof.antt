@@ -1,12 +1,9 @@
-use mathlib.Core.Path.{_≡_, sym, _∙_}
+-- `scan::lower_candidate` meets its contract. The cases of the neighbour v against the best so far. Assumes nothing.
 use native.Mathlib.Omega.{arith}
 use Rattle.scan.proofs.Floor.{next-far, next-low, next-keep, next-take}
 use borrow.Author.Needs.{needs}
 use Rattle.scan.proofs.lower_candidate.Statement.{statement}
 use Rattle.scan.proofs.lower_candidate.Tie as tie
-use Rattle.scan.proofs.lower_candidate.Reads as reads
-use Rattle.scan.proofs.lower_candidate.Lts as lts
-use Rattle.map_state.proofs.wide.Reads as wide-reads
 
 mul-if1 : tie.Need-mul-if1
 mul-if1 c = search needs
@@ -24,7 +21,10 @@ wide-requires : tie.Need-wide-requires
 wide-requires c κs = search needs
 
 returns : tie.Need-returns
-returns c = next-low _ _ _ _ _ (c .before .before .before .before .before .before .before .pre .2) (omega (arith, c .before .wide .ensures))
+returns c =
+    let c7 = c .before .before .before .before .before .before .before in
+    let c7 = c7 in
+    next-low _ _ _ _ _ (c7 .pre .2) (omega (arith, c .before .wide .ensures))
 
 mul-wide-2 : tie.Need-mul-wide-2
 mul-wide-2 c = search needs
@@ -36,13 +36,24 @@ wide-requires-2 : tie.Need-wide-requires-2
 wide-requires-2 c κs = search needs
 
 returns-2 : tie.Need-returns-2
-returns-2 c = next-take _ _ _ _ _ (c .before .before .before .before .before .before .before .before .before .before .before .pre .2) (c .before .before .before .before .before .before .before .before .before .before .before .pre .1) (c .before .before .before .before .before .before .before .if1 .taken) (omega (arith, c .before .before .before .before .before .wide .ensures)) (λ h. omega (arith, c .before .before .before .before .before .wide .ensures, c .before .wide2 .ensures))
+returns-2 c =
+    let c5 = c .before .before .before .before .before in
+    let c7 = c5 .before .before in
+    let c11 = c7 .before .before .before .before in
+    next-take _ _ _ _ _ (c11 .pre .2) (c11 .pre .1) (c7 .if1 .taken) (omega (arith, c5 .wide .ensures)) (λ h. omega (arith, c5 .wide .ensures, c .before .wide2 .ensures))
 
 returns-3 : tie.Need-returns-3
-returns-3 c = next-keep _ _ _ _ _ (c .before .before .before .before .before .before .before .before .before .before .before .pre .2) (c .before .before .before .if3 .taken) (omega (arith, c .before .before .before .before .before .wide .ensures, c .before .wide2 .ensures))
+returns-3 c =
+    let c5 = c .before .before .before .before .before in
+    let c5 = c5 in
+    let c11 = c5 .before .before .before .before .before .before in
+    next-keep _ _ _ _ _ (c11 .pre .2) (c .before .before .before .if3 .taken) (omega (arith, c5 .wide .ensures, c .before .wide2 .ensures))
 
 returns-4 : tie.Need-returns-4
-returns-4 c = next-take _ _ _ _ _ (c .before .before .before .before .before .before .before .before .pre .2) (c .before .before .before .before .before .before .before .before .pre .1) (c .before .before .before .before .if1 .taken) (omega (arith, c .before .before .wide .ensures)) (λ h. absurd (omega arith))
+returns-4 c =
+    let c4 = c .before .before .before .before in
+    let c8 = c4 .before .before .before .before in
+    next-take _ _ _ _ _ (c8 .pre .2) (c8 .pre .1) (c4 .if1 .taken) (omega (arith, c .before .before .wide .ensures)) (λ h. absurd (omega arith))
 
 returns-5 : tie.Need-returns-5
 returns-5 c = next-far _ _ _ _ _ (c .before .before .before .before .pre .2) (c .if1 .left)

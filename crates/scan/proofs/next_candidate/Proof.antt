@@ -1,4 +1,5 @@
-use mathlib.Core.Path.{_≡_, sym, _∙_}
+-- `scan::next_candidate` meets its contract. The loop has found the lowest candidate among the nodes below v. Assumes nothing.
+use mathlib.Core.Path.{_≡_}
 use native.Mathlib.Omega.{arith}
 use Prim.Native.Nat.{_-_, _≤_}
 use lib.ListN.{length}
@@ -7,9 +8,6 @@ use Rattle.scan.proofs.Floor.{next-start}
 use borrow.Author.Needs.{needs}
 use Rattle.scan.proofs.next_candidate.Statement.{statement}
 use Rattle.scan.proofs.next_candidate.Tie as tie
-use Rattle.scan.proofs.next_candidate.Reads as reads
-use Rattle.scan.proofs.next_candidate.Lts as lts
-use Rattle.scan.proofs.lower_candidate.Reads as lower-candidate-reads
 
 abbrev Inv-loop : tie.InvT-loop
 Inv-loop part row floor r₀ v₀ r v = Next part row floor v r × (v ≤ length part)

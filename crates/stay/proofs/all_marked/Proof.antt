@@ -1,7 +1,6 @@
 -- `stay::all_marked` meets its contract. Assumes nothing.
 use mathlib.Core.Path.{_≡_, refl}
-use Prim.Native.Nat.{_-_, _≤_}
-use native.Mathlib.Omega.{arith}
+use Prim.Native.Nat.{_-_}
 use lib.ListN.{length, drop}
 use Rattle.stay.specs.Steps.{allMarked}
 use Rattle.stay.proofs.Loops.{marked-on, marked-stop, marked-end}

@@ -1,8 +1,7 @@
 -- `stay::close` meets its contract. Assumes nothing.
-use mathlib.Core.Path.{_≡_, refl, _∙_}
+use mathlib.Core.Path.{_∙_}
 use Rattle.stay.specs.Steps.{closed, stateOf, midOf}
 use Rattle.stay.specs.Regions.{middleIn}
-use Rattle.stay.proofs.States.{mid-is}
 use borrow.Author.Needs.{needs}
 use Rattle.stay.proofs.close.Statement.{statement}
 use Rattle.stay.proofs.close.Tie as tie

@@ -1,5 +1,4 @@
 -- `stay::insert_both` meets its contract. Assumes nothing.
-use mathlib.Core.Path.{_≡_, refl, sym, _∙_}
 use native.Mathlib.Omega.{arith}
 use native.Mathlib.Nat.{add-sub-cancel-left, sub-zero}
 use Rattle.stay.specs.Regions.{insertBoth, put, insertIn}

@@ -1,7 +1,6 @@
 -- `stay::is_stay` meets its contract. Assumes nothing.
 use borrow.Author.Tests.{le-leb, lt-leb}
 use Rattle.stay.specs.Steps.{stayTest}
-use borrow.Author.Needs.{needs}
 use Rattle.stay.proofs.is_stay.Statement.{statement}
 use Rattle.stay.proofs.is_stay.Tie as tie
 

@@ -1,6 +1,5 @@
 -- `stay::joins` meets its contract. Assumes nothing.
 use Rattle.stay.specs.Steps.{joinTest}
-use borrow.Author.Needs.{needs}
 use Rattle.stay.proofs.joins.Statement.{statement}
 use Rattle.stay.proofs.joins.Tie as tie
 

@@ -1,9 +1,9 @@
 -- `stay::keep` meets its contract. Assumes nothing.
-use mathlib.Core.Path.{_≡_, refl, _∙_}
+use mathlib.Core.Path.{_≡_}
 use native.Mathlib.Omega.{arith}
 use Prim.Native.Nat.{_-_, _^_}
 use borrow.Author.Tests.{lt-ltb}
-use lib.ListN.{length, drop, replicate, length-drop, length-set}
+use lib.ListN.{drop, replicate, length-drop, length-set}
 use lib.IntN.{pos, negsuc}
 use lib.Seq.{length-take-le}
 use Rattle.stay.proofs.States.{kept-stay, kept-none}

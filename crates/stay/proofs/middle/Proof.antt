@@ -1,5 +1,4 @@
 -- `stay::middle` meets its contract. Assumes nothing.
-use mathlib.Core.Path.{refl}
 use native.Mathlib.Omega.{arith}
 use native.Mathlib.Nat.{add-sub-cancel-left, sub-zero}
 use lib.Seq.{take-take}

@@ -1,9 +1,7 @@
 -- `stay::next` meets its contract. Assumes nothing.
 use mathlib.Core.Path.{_≡_, refl, sym, ap, _∙_}
-use Prim.Native.Nat.{_-_, _≤_, _<_}
-use native.Mathlib.Nat.{sub-self, le-refl}
+use Prim.Native.Nat.{_-_}
 use native.Mathlib.Omega.{arith}
-use lib.ListN.{length}
 use Rattle.distance.specs.Distance.{euclidean}
 use Rattle.stay.specs.Ordered.{inOrder}
 use Rattle.stay.specs.Steps.{State, stateOf, closed, kept, taken}

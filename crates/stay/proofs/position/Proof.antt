@@ -1,5 +1,5 @@
 -- `stay::position` meets its contract: what lies below `lo` is at most elem, what lies from `hi` on is not. Assumes nothing.
-use mathlib.Core.Path.{_≡_, sym, _∙_}
+use mathlib.Core.Path.{_≡_, _∙_}
 use mathlib.Core.Bool.{true, false}
 use Prim.Native.Nat.{ℕ, _+_, _-_, _/_, _≤_, _<_}
 use native.Mathlib.Nat.{not-suc-le-zero, lt-irrefl, lt-of-lt-of-le}

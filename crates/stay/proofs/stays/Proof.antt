@@ -1,6 +1,6 @@
 -- `stay::stays` meets its contract: the loop goes on with the run of `proofs/Run.antt`, whose end `proofs/Whole.antt` reads. Assumes nothing.
 use mathlib.Core.Path.{_≡_, refl, sym, ap, _∙_, subst}
-use Prim.Native.Nat.{ℕ, _+_, _-_, _*_, _/_, _≤_, _<_}
+use Prim.Native.Nat.{_+_, _-_, _*_, _/_, _≤_, _<_}
 use native.Mathlib.Omega.{arith}
 use lib.ListN.{length, getD}
 use lib.Ieee.{nan}
@@ -8,7 +8,7 @@ use Rattle.distance.specs.declared.Point.{Point}
 use Rattle.distance.specs.Distance.{euclidean}
 use Rattle.stay.specs.Ordered.{inOrder}
 use Rattle.stay.specs.Trace.{fixes}
-use Rattle.stay.specs.Steps.{State, stateOf, step}
+use Rattle.stay.specs.Steps.{stateOf, step}
 use Rattle.stay.proofs.Run.{run}
 use Rattle.stay.proofs.Whole.{Sound, sound-step, sound-first, run-on, point-is, Last, last-state, enough, whole, nothing}
 use borrow.Author.Needs.{needs}
@@ -161,7 +161,8 @@ returns-2 c =
     let a = c .before .before .before .before .before .before .before .before .before .before .before .before .before .before .before .before .before .before .before .before .before .before .args in
     let p = c .before .before .before .before .before .before .before .before .before .before .before .before .before .before .before .before .before .before .before .before .before .before .pre in
     whole (a .s) (a .xs .now) (a .ys .now) (a .times .now) (a .marks .now) (p .ys-length) (p .times-length) (p .marks-length) (a .found) (some-fix c) (length (a .work .now) / 4) (a .work .now) (a .events .now) (some-room c) (fits c)
-    (c .before .before .before .before .close .last .1 .1 .1 .0) (c .before .before .before .before .close .last .1 .1 .1 .1 .0) (c .before .before .before .before .close .result) refl (omega (arith, c .before .before .before .before .close .kept .1 .1 .1 .1 .0, p .events-length)) (final c)
+    (c .before .before .before .before .close .last .1 .1 .1 .0) (c .before .before .before .before .close .last .1 .1 .1 .1 .0) (c .before .before .before .before .close .result) refl
+    (omega (arith, c .before .before .before .before .close .kept .1 .1 .1 .0, c .before .before .before .before .before .before .before .before .loop .inv .3, c .before .before .before .before .before .before .before .before .before .before .before .insert-both .kept .0)) (omega (arith, c .before .before .before .before .close .kept .1 .1 .1 .1 .0, p .events-length)) (final c)
 
 pub stays-spec : {M : Type 1} → statement M
 stays-spec =

@@ -1,0 +1,4 @@
+pub mod NodeNetwork
+pub mod Relabelled
+pub mod Labelled
+pub mod AtRest

@@ -1,0 +1,40 @@
+-- Labels of places (document 01, "Labels"; cluster.rs of the Rust). Definitions only.
+use Prim.Native.Nat.{ℕ, zero, suc, _+_, max}
+use mathlib.Core.Bool.{Bool, cond}
+use mathlib.Core.List.{List, [], _∷_, map}
+use lib.IntN.{ℤ, pos, negsuc}
+use lib.ListN.{length, getD}
+use lib.Ieee.{Float}
+use Rattle.lists.specs.Lists.{upto, member, position}
+use Rattle.neighbors.specs.Places.{Place}
+use Rattle.neighbors.specs.Links.{Metric, weight, nodes, singles}
+use Rattle.neighbors.specs.Tables.{tableOf}
+use Rattle.map_state.specs.Network.{Network, network}
+use Rattle.infomap.specs.Infomap.{RunMark, Grouping, runInfomap}
+
+-- The network of the nodes: linked places in place order, with the weights of their links.
+unfoldable pub nodeNetwork : Metric → Float → List Place → Network
+nodeNetwork dist r2 ps = network (tableOf (weight dist r2 ps) (nodes dist r2 ps)) (length (nodes dist r2 ps)) (length (nodes dist r2 ps))
+
+-- How many labels the nodes have: one above the highest.
+unfoldable pub labelCount : List ℕ → ℕ
+labelCount [] = 0
+labelCount (l ∷ ls) = max (suc l) (labelCount ls)
+
+-- The label of place i: the nodes ns have the labels ls, 0 up by first member; the singles ss follow upward in place order, or have -1.
+unfoldable pub placeLabel : Bool → List ℕ → List ℕ → List ℕ → ℕ → ℤ
+placeLabel single ns ss ls i =
+    let a = pos (getD ls (position i ns) 0) in
+    let b = pos (labelCount ls + position i ss) in
+    cond (member i ns) a (cond single b (negsuc 0))
+
+-- The labels of the places, and mark and rounds of the kept trial.
+pub record Clustering : Type 0 where
+  pub labels : List ℤ
+  pub mark : RunMark
+  pub rounds : ℕ
+
+unfoldable pub cluster : Metric → Float → Bool → ℕ → List Place → Clustering
+cluster dist r2 single seed ps =
+    let k = runInfomap (nodeNetwork dist r2 ps) seed in
+    record { labels = map (placeLabel single (nodes dist r2 ps) (singles dist r2 ps) (k .partition)) (upto (length ps)); mark = k .mark; rounds = k .rounds }

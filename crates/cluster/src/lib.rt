@@ -1,0 +1,1 @@
+// Labels of places from the kept grouping of the nodes.

@@ -1,0 +1,102 @@
+-- The whole fit: from settings and the caller's slices to a refusal, or labels, places, mark and rounds (document 01). Definitions only.
+use Prim.Native.Nat.{ℕ}
+use mathlib.Core.Bool.{Bool, true, false}
+use mathlib.Core.List.{List, [], _∷_}
+use lib.Dec.{ltb}
+use lib.IntN.{ℤ, pos, negsuc}
+use lib.ListN.{length}
+use lib.Ieee.{Float}
+use Rattle.distance.specs.declared.Point.{Point}
+use Rattle.distance.specs.Distance.{euclidean}
+use Rattle.stay.specs.declared.StaySettings.{StaySettings}
+use Rattle.stay.specs.Trace.{Fix, fixes}
+use Rattle.neighbors.specs.Places.{Place, places}
+use Rattle.neighbors.specs.Links.{Metric}
+use Rattle.infomap.specs.Infomap.{RunMark}
+use Rattle.cluster.specs.Cluster.{Clustering, cluster}
+use Rattle.tracks.specs.declared.config.Config.{Config}
+use Rattle.tracks.specs.declared.refusal.Refusal.{Refusal}
+use Rattle.tracks.specs.declared.refusal.Refusal.the-variants.{NoStop, TooManyPlaces}
+use Rattle.tracks.specs.declared.refusal.Checked.{Checked}
+use Rattle.tracks.specs.declared.refusal.Checked.the-variants.{Accepted, Refused}
+use Rattle.tracks.specs.Settings.{checkConfig}
+use Rattle.tracks.specs.Tracks.{traces, checkTracks}
+use Rattle.fit.specs.FixLabels.{allMedians, fixLabels}
+use Rattle.fit.specs.Demand.{Given}
+
+-- The settings that stays are found by.
+abbrev pub staySettings : Config → StaySettings
+staySettings c = record { r1 = c .r1; «min_size» = c .«min_size»; «min_staying_time» = c .«min_staying_time»; «max_time_between» = c .«max_time_between» }
+
+-- What a fit without a refusal gives: the labels of the fixes, in order of the traces; the places and their labels; mark and rounds of the kept trial.
+pub record Fitted : Type 0 where
+  pub labels : List ℤ
+  pub places : List Place
+  pub placeLabels : List ℤ
+  pub mark : RunMark
+  pub rounds : ℕ
+
+-- A fit gives one of the two. Document 01's number and trace of a refusal are `numberOf` and `traceOf` of crate `tracks`.
+pub data Outcome : Type 0 where
+  refused : Refusal → Outcome
+  fitted : Fitted → Outcome
+
+-- All labels are -1.
+unfoldable pub noneLabelled : List ℤ → Bool
+noneLabelled [] = true
+noneLabelled (pos l ∷ ls) = false
+noneLabelled (negsuc l ∷ ls) = noneLabelled ls
+
+-- 18 for all labels -1.
+unfoldable pub unlessNone : Bool → Fitted → Outcome
+unlessNone true f = refused NoStop
+unlessNone false f = fitted f
+
+module _ (dist : Metric) (c : Config) (cap : ℕ) (ts : List (List Fix)) where
+  unfoldable pub givenBy : List Place → Clustering → Fitted
+  unfolding fixLabels
+  givenBy ps k = record { labels = fixLabels dist (staySettings c) ps (k .labels) ts; places = ps; placeLabels = k .labels; mark = k .mark; rounds = k .rounds }
+
+  -- 19: the Bool tells whether there are more distinct medians than `places`, the cap. Then the grouping.
+  unfoldable pub fromPlaces : List Place → Bool → Outcome
+  unfolding unlessNone noneLabelled givenBy cluster
+  fromPlaces ps true = refused TooManyPlaces
+  fromPlaces ps false = let k = cluster dist (c .r2) (c .«label_singleton») (c .seed) ps in unlessNone (noneLabelled (k .labels)) (givenBy ps k)
+
+  -- 18 for no accepted stay. Then the distinct medians.
+  unfoldable pub fromMedians : List Point → Outcome
+  unfolding fromPlaces places
+  fromMedians [] = refused NoStop
+  fromMedians (m ∷ ms) = let ps = places (m ∷ ms) in fromPlaces ps (ltb cap (length ps))
+
+  -- The fit of traces that have passed the checks.
+  unfoldable pub fitTraces : Outcome
+  unfolding fromMedians allMedians
+  fitTraces = fromMedians (allMedians dist (staySettings c) ts)
+
+-- A check comes first.
+unfoldable pub unlessRefused : Checked → Outcome → Outcome
+unlessRefused Accepted o = o
+unlessRefused (Refused e) o = refused e
+
+-- `fit_predict_many` over the caller's slices: 1 to 6; 7 to 17; 18, 19, 18. `labels`, `floats` and `words` are the lengths of the label slice and of the work slices.
+unfoldable pub fit : Config → List Float → List Float → List Float → List ℕ → List ℕ → ℕ → ℕ → ℕ → ℕ → Outcome
+unfolding unlessRefused checkConfig checkTracks fitTraces fixes traces
+fit c xs ys times marks lens labels cap floats words =
+    unlessRefused (checkConfig c)
+    (unlessRefused (checkTracks xs ys times marks lens labels cap floats words) (fitTraces euclidean c cap (traces lens (fixes xs ys times marks))))
+
+-- What demand 3 speaks of, for an accepted fit.
+abbrev pub givenOf : Metric → Config → List (List Fix) → Fitted → Given
+givenOf dist c ts f = record {
+  dist = dist;
+  stay = staySettings c;
+  r2 = c .r2;
+  single = c .«label_singleton»;
+  seed = c .seed;
+  traces = ts;
+  labels = f .labels;
+  places = f .places;
+  placeLabels = f .placeLabels;
+  mark = f .mark;
+}

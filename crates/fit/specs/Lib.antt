@@ -1,0 +1,5 @@
+pub mod FixLabels
+pub mod Demand
+pub mod Fit
+pub mod Tries
+pub mod Facts

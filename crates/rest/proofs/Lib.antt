@@ -1,0 +1,6 @@
+-- Theorems on the grouping run.
+pub mod Quiet
+pub mod Answers
+pub mod Joined
+pub mod KeptTrial
+pub mod Marks
