@@ -11,7 +11,7 @@ use Rattle.lists.proofs.Tests.{and-left, and-right, or-left, or-right}
 use Rattle.tracks.specs.declared.refusal.Refusal.the-variants.{NoTrace, Lengths, Counts, Work}
 use Rattle.tracks.specs.declared.refusal.Checked.the-variants.{Accepted}
 use Rattle.tracks.specs.Checks.{refuseIf, inTurn}
-use Rattle.tracks.specs.Tracks.{total, sameLengths, checkLengths, checkCounts, checkPlaces, checkWork}
+use Rattle.tracks.specs.Tracks.{total, sameLengths, checkLengths, checkCounts, checkWork}
 use Rattle.tracks.proofs.Turns.{passed, turn-first, turn-rest}
 
 -- There is a trace, and the lengths agree.
@@ -43,31 +43,28 @@ lengths-agree lens n ys ts ms labels h =
       sum = eqb-true (total lens) n (and-right four (eqb (total lens) n) b);
     }
 
--- Not too many traces or fixes.
-pub record Counted (traces fixes : ℕ) : Type 0 where
+-- Neither too many traces, fixes or places, nor no place.
+pub record Counted (traces fixes places : ℕ) : Type 0 where
   pub few-traces : traces ≤ 256
   pub few-fixes : fixes ≤ 65536
-
-pub counts-few : (traces fixes : ℕ) → checkCounts traces fixes ≡ Accepted → Counted traces fixes
-unfolding checkCounts
-counts-few traces fixes h =
-    let a : (ltb 256 traces || ltb 65536 fixes) ≡ false = passed (ltb 256 traces || ltb 65536 fixes) Counts h in
-    record {
-      few-traces = ltb-false 256 traces (or-left (ltb 256 traces) (ltb 65536 fixes) a);
-      few-fixes = ltb-false 65536 fixes (or-right (ltb 256 traces) (ltb 65536 fixes) a);
-    }
-
--- Not too many places, nor none.
-pub record Placed (places : ℕ) : Type 0 where
   pub some-place : 1 ≤ places
   pub few-places : places ≤ 512
 
-pub places-few : (places : ℕ) → checkPlaces places ≡ Accepted → Placed places
-unfolding checkPlaces
-places-few places h =
-    let a : (eqb places 0 || ltb 512 places) ≡ false = passed (eqb places 0 || ltb 512 places) Counts h in
-    let b : (places ≡ 0 → ⊥) = eqb-false places 0 (or-left (eqb places 0) (ltb 512 places) a) in
-    record { some-place = omega arith; few-places = ltb-false 512 places (or-right (eqb places 0) (ltb 512 places) a) }
+pub counts-few : (traces fixes places : ℕ) → checkCounts traces fixes places ≡ Accepted → Counted traces fixes places
+unfolding checkCounts
+counts-few traces fixes places h =
+    let two = ltb 256 traces || ltb 65536 fixes in
+    let three = two || eqb places 0 in
+    let a : (three || ltb 512 places) ≡ false = passed (three || ltb 512 places) Counts h in
+    let b : three ≡ false = or-left three (ltb 512 places) a in
+    let c : two ≡ false = or-left two (eqb places 0) b in
+    let d : (places ≡ 0 → ⊥) = eqb-false places 0 (or-right two (eqb places 0) b) in
+    record {
+      few-traces = ltb-false 256 traces (or-left (ltb 256 traces) (ltb 65536 fixes) c);
+      few-fixes = ltb-false 65536 fixes (or-right (ltb 256 traces) (ltb 65536 fixes) c);
+      some-place = omega arith;
+      few-places = ltb-false 512 places (or-right three (ltb 512 places) a);
+    }
 
 -- The work slices are long enough.
 pub record Roomy (fixes places floats words : ℕ) : Type 0 where

@@ -14,7 +14,7 @@ use Rattle.tracks.specs.declared.refusal.Checked.the-variants.{Accepted,
 use Rattle.tracks.specs.Checks.{refuseIf, firstOf, inTurn, eachOf, eachFrom}
 use Rattle.tracks.specs.Settings.{unusable, checkTimeBounds, checkConfig}
 use Rattle.tracks.specs.Traces.{finitePoint, finiteTime, checkFix, untimed, partlyTimed, above, aboveFirst, inTimeOrder, checkTimes, checkTrace, checkFixSize, checkSize}
-use Rattle.tracks.specs.Tracks.{total, traces, sameLengths, checkLengths, checkCounts, checkPlaces, checkWork, checkMark, checkContents, checkTracks}
+use Rattle.tracks.specs.Tracks.{total, traces, sameLengths, checkLengths, checkCounts, checkWork, checkMark, checkContents, checkTracks}
 
 -- ---- settings: min_staying_time, max_time_between, min_size
 
@@ -40,7 +40,7 @@ equal-bounds = refl
 -- ---- tracks: x, times, marks and trace lengths; every y is 0
 
 check : List Float → List Float → List ℕ → List ℕ → Checked
-unfolding checkTracks checkLengths sameLengths total checkCounts checkPlaces checkWork checkContents checkMark traces fixes checkTrace checkFix finitePoint finiteTime finite checkTimes partlyTimed timed untimed inTimeOrder aboveFirst above lt checkSize checkFixSize inLimit within inTurn firstOf refuseIf eachOf eachFrom ofInt ofBits
+unfolding checkTracks checkLengths sameLengths total checkCounts checkWork checkContents checkMark traces fixes checkTrace checkFix finitePoint finiteTime finite checkTimes partlyTimed timed untimed inTimeOrder aboveFirst above lt checkSize checkFixSize inLimit within inTurn firstOf refuseIf eachOf eachFrom ofInt ofBits
 check xs ts ms lens = checkTracks xs (replicate (length xs) zero64) ts ms lens (length xs) 4 100 100
 
 abbrev w : ℕ → Float

@@ -34,12 +34,9 @@ checkLengths lens n ys ts ms labels =
     ∷ refuseIf (not (sameLengths n ys ts ms labels && eqb (total lens) n)) Lengths
     ∷ [])
 
--- 9: of the traces and fixes, and of the places.
-unfoldable pub checkCounts : ℕ → ℕ → Checked
-checkCounts traces fixes = refuseIf (ltb 256 traces || ltb 65536 fixes) Counts
-
-unfoldable pub checkPlaces : ℕ → Checked
-checkPlaces places = refuseIf (eqb places 0 || ltb 512 places) Counts
+-- 9.
+unfoldable pub checkCounts : ℕ → ℕ → ℕ → Checked
+checkCounts traces fixes places = refuseIf (ltb 256 traces || ltb 65536 fixes || eqb places 0 || ltb 512 places) Counts
 
 -- 10: 4 × fixes + places² f64 and 4 × fixes + 8 × places 32-bit numbers.
 unfoldable pub checkWork : ℕ → ℕ → ℕ → ℕ → Checked
@@ -63,18 +60,17 @@ unfoldable pub checkTracks : List Float → List Float → List Float → List �
 checkTracks xs ys ts ms lens labels places floats words =
     inTurn
     (checkLengths lens (length xs) (length ys) (length ts) (length ms) labels
-    ∷ checkCounts (length lens) (length xs)
-    ∷ checkPlaces places
+    ∷ checkCounts (length lens) (length xs) places
     ∷ checkWork (length xs) places floats words
     ∷ checkContents xs ys ts ms lens
     ∷ [])
 
--- For a report, which has neither a label slice nor `places`: its work is 4 × fixes numbers of each kind.
+-- For a report. It has neither a label slice nor `places`: their checks are passed over, and its work is 4 × fixes numbers of each kind.
 unfoldable pub checkReportTracks : List Float → List Float → List Float → List ℕ → List ℕ → ℕ → ℕ → Checked
 checkReportTracks xs ys ts ms lens floats words =
     inTurn
     (checkLengths lens (length xs) (length ys) (length ts) (length ms) (length xs)
-    ∷ checkCounts (length lens) (length xs)
+    ∷ checkCounts (length lens) (length xs) 1
     ∷ checkWork (length xs) 0 floats words
     ∷ checkContents xs ys ts ms lens
     ∷ [])

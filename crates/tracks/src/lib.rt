@@ -95,17 +95,13 @@ pub fn check_tracks(
     if crate::refusal::is_refused(a) {
         return a;
     }
-    let b = crate::slices::check_counts(lens.len(), n);
+    let b = crate::slices::check_counts(lens.len(), n, places);
     if crate::refusal::is_refused(b) {
         return b;
     }
-    let c = crate::slices::check_places(places);
+    let c = crate::slices::check_work(n, places, floats, words);
     if crate::refusal::is_refused(c) {
         return c;
-    }
-    let d = crate::slices::check_work(n, places, floats, words);
-    if crate::refusal::is_refused(d) {
-        return d;
     }
     check_contents(xs, ys, times, marks, lens)
 }
@@ -127,7 +123,7 @@ pub fn check_report_tracks(
     if crate::refusal::is_refused(a) {
         return a;
     }
-    let b = crate::slices::check_counts(lens.len(), n);
+    let b = crate::slices::check_counts(lens.len(), n, 1);
     if crate::refusal::is_refused(b) {
         return b;
     }

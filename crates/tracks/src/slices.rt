@@ -4,7 +4,7 @@ use crate::refusal::Refusal;
 ghost use mathlib.Core.Path.{_≡_};
 ghost use Prim.Native.Nat.{_≤_};
 ghost use lib.Dec.{eqb};
-ghost use Rattle.tracks.specs.Tracks.{total, sameLengths, checkLengths, checkCounts, checkPlaces, checkWork, checkMark};
+ghost use Rattle.tracks.specs.Tracks.{total, sameLengths, checkLengths, checkCounts, checkWork, checkMark};
 ghost use Rattle.tracks.specs.Checks.{eachOf};
 
 // Whether the trace lengths sum to n. What is left of n does not wrap.
@@ -63,9 +63,9 @@ pub fn check_lengths(
     Checked::Accepted
 }
 
-// 9: not too many traces or fixes.
-pub fn check_counts(traces: usize, fixes: usize) -> Checked
-    ensures { λ r. ⌜ r ≡ checkCounts traces fixes ⌝ }
+// 9: neither too many traces, fixes or places, nor no place.
+pub fn check_counts(traces: usize, fixes: usize, places: usize) -> Checked
+    ensures { λ r. ⌜ r ≡ checkCounts traces fixes places ⌝ }
 {
     if 256 < traces {
         return Checked::Refused(Refusal::Counts);
@@ -73,13 +73,6 @@ pub fn check_counts(traces: usize, fixes: usize) -> Checked
     if 65536 < fixes {
         return Checked::Refused(Refusal::Counts);
     }
-    Checked::Accepted
-}
-
-// 9: not too many places, nor none.
-pub fn check_places(places: usize) -> Checked
-    ensures { λ r. ⌜ r ≡ checkPlaces places ⌝ }
-{
     if places == 0 {
         return Checked::Refused(Refusal::Counts);
     }

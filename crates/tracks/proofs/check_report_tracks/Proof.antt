@@ -33,7 +33,7 @@ returns-2 c =
     (stops _ _ (c .before .before .check-counts .ensures) (says (c .before .is-refused2 .ensures) (c .if2 .taken)))
 
 check-work-requires : tie.Need-check-work-requires
-check-work-requires c κs = (counts-few _ _ (accepts (c .before .before .check-counts .ensures) (says (c .before .is-refused2 .ensures) (c .if2 .left))) .few-fixes, omega arith)
+check-work-requires c κs = (counts-few _ _ _ (accepts (c .before .before .check-counts .ensures) (says (c .before .is-refused2 .ensures) (c .if2 .left))) .few-fixes, omega arith)
 
 is-refused-requires-3 : tie.Need-is-refused-requires-3
 is-refused-requires-3 c κs = search needs

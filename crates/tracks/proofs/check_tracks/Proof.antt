@@ -3,7 +3,7 @@ use mathlib.Core.Path.{sym, _∙_}
 use Rattle.tracks.specs.Checks.{inTurn}
 use Rattle.tracks.specs.Tracks.{checkTracks}
 use Rattle.tracks.proofs.Turns.{says, first-alone, stops, goes-on, accepts}
-use Rattle.tracks.proofs.Lengths.{lengths-agree, counts-few, places-few}
+use Rattle.tracks.proofs.Lengths.{lengths-agree, counts-few}
 use borrow.Author.Needs.{needs}
 use Rattle.tracks.proofs.check_tracks.Statement.{statement}
 use Rattle.tracks.proofs.check_tracks.Tie as tie
@@ -16,8 +16,7 @@ is-refused-requires c κs = search needs
 
 returns : tie.Need-returns
 unfolding checkTracks inTurn
-returns c =
-    stops _ _ (c .before .before .check-lengths .ensures) (says (c .before .is-refused .ensures) (c .if1 .taken))
+returns c = stops _ _ (c .before .before .check-lengths .ensures) (says (c .before .is-refused .ensures) (c .if1 .taken))
 
 check-counts-requires : tie.Need-check-counts-requires
 check-counts-requires c κs = search needs
@@ -31,8 +30,10 @@ returns-2 c =
     goes-on _ _ (c .before .before .before .before .before .check-lengths .ensures) (says (c .before .before .before .before .is-refused .ensures) (c .before .before .before .if1 .left))
     (stops _ _ (c .before .before .check-counts .ensures) (says (c .before .is-refused2 .ensures) (c .if2 .taken)))
 
-check-places-requires : tie.Need-check-places-requires
-check-places-requires c κs = search needs
+check-work-requires : tie.Need-check-work-requires
+check-work-requires c κs =
+    let h = counts-few _ _ _ (accepts (c .before .before .check-counts .ensures) (says (c .before .is-refused2 .ensures) (c .if2 .left))) in
+    (h .few-fixes, h .few-places)
 
 is-refused-requires-3 : tie.Need-is-refused-requires-3
 is-refused-requires-3 c κs = search needs
@@ -42,35 +43,20 @@ unfolding checkTracks inTurn
 returns-3 c =
     goes-on _ _ (c .before .before .before .before .before .before .before .before .check-lengths .ensures) (says (c .before .before .before .before .before .before .before .is-refused .ensures) (c .before .before .before .before .before .before .if1 .left))
     (goes-on _ _ (c .before .before .before .before .before .check-counts .ensures) (says (c .before .before .before .before .is-refused2 .ensures) (c .before .before .before .if2 .left))
-    (stops _ _ (c .before .before .check-places .ensures) (says (c .before .is-refused3 .ensures) (c .if3 .taken))))
+    (stops _ _ (c .before .before .check-work .ensures) (says (c .before .is-refused3 .ensures) (c .if3 .taken))))
 
-check-work-requires : tie.Need-check-work-requires
-check-work-requires c κs = (counts-few _ _ (accepts (c .before .before .before .before .before .check-counts .ensures) (says (c .before .before .before .before .is-refused2 .ensures) (c .before .before .before .if2 .left))) .few-fixes, places-few _ (accepts (c .before .before .check-places .ensures) (says (c .before .is-refused3 .ensures) (c .if3 .left))) .few-places)
-
-is-refused-requires-4 : tie.Need-is-refused-requires-4
-is-refused-requires-4 c κs = search needs
+check-contents-requires : tie.Need-check-contents-requires
+check-contents-requires c κs =
+    let h = lengths-agree _ _ _ _ _ _ (accepts (c .before .before .before .before .before .before .before .before .check-lengths .ensures) (says (c .before .before .before .before .before .before .before .is-refused .ensures) (c .before .before .before .before .before .before .if1 .left))) in
+    (h .ys-length, h .times-length, h .marks-length, h .sum)
 
 returns-4 : tie.Need-returns-4
 unfolding checkTracks inTurn
 returns-4 c =
-    goes-on _ _ (c .before .before .before .before .before .before .before .before .before .before .before .check-lengths .ensures) (says (c .before .before .before .before .before .before .before .before .before .before .is-refused .ensures) (c .before .before .before .before .before .before .before .before .before .if1 .left))
-    (goes-on _ _ (c .before .before .before .before .before .before .before .before .check-counts .ensures) (says (c .before .before .before .before .before .before .before .is-refused2 .ensures) (c .before .before .before .before .before .before .if2 .left))
-    (goes-on _ _ (c .before .before .before .before .before .check-places .ensures) (says (c .before .before .before .before .is-refused3 .ensures) (c .before .before .before .if3 .left))
-    (stops _ _ (c .before .before .check-work .ensures) (says (c .before .is-refused4 .ensures) (c .if4 .taken)))))
-
-check-contents-requires : tie.Need-check-contents-requires
-check-contents-requires c κs =
-    let h = lengths-agree _ _ _ _ _ _ (accepts (c .before .before .before .before .before .before .before .before .before .before .before .check-lengths .ensures) (says (c .before .before .before .before .before .before .before .before .before .before .is-refused .ensures) (c .before .before .before .before .before .before .before .before .before .if1 .left))) in
-    (h .ys-length, h .times-length, h .marks-length, h .sum)
-
-returns-5 : tie.Need-returns-5
-unfolding checkTracks inTurn
-returns-5 c =
-    goes-on _ _ (c .before .before .before .before .before .before .before .before .before .before .before .before .check-lengths .ensures) (says (c .before .before .before .before .before .before .before .before .before .before .before .is-refused .ensures) (c .before .before .before .before .before .before .before .before .before .before .if1 .left))
-    (goes-on _ _ (c .before .before .before .before .before .before .before .before .before .check-counts .ensures) (says (c .before .before .before .before .before .before .before .before .is-refused2 .ensures) (c .before .before .before .before .before .before .before .if2 .left))
-    (goes-on _ _ (c .before .before .before .before .before .before .check-places .ensures) (says (c .before .before .before .before .before .is-refused3 .ensures) (c .before .before .before .before .if3 .left))
-    (goes-on _ _ (c .before .before .before .check-work .ensures) (says (c .before .before .is-refused4 .ensures) (c .before .if4 .left))
-    (c .check-contents .ensures ∙ sym (first-alone _)))))
+    goes-on _ _ (c .before .before .before .before .before .before .before .before .before .check-lengths .ensures) (says (c .before .before .before .before .before .before .before .before .is-refused .ensures) (c .before .before .before .before .before .before .before .if1 .left))
+    (goes-on _ _ (c .before .before .before .before .before .before .check-counts .ensures) (says (c .before .before .before .before .before .is-refused2 .ensures) (c .before .before .before .before .if2 .left))
+    (goes-on _ _ (c .before .before .before .check-work .ensures) (says (c .before .before .is-refused3 .ensures) (c .before .if3 .left))
+    (c .check-contents .ensures ∙ sym (first-alone _))))
 
 pub check-tracks-spec : {M : Type 1} → statement M
 check-tracks-spec =
@@ -82,11 +68,8 @@ check-tracks-spec =
     check-counts-requires
     is-refused-requires-2
     returns-2
-    check-places-requires
+    check-work-requires
     is-refused-requires-3
     returns-3
-    check-work-requires
-    is-refused-requires-4
-    returns-4
     check-contents-requires
-    returns-5)
+    returns-4)
