@@ -26,10 +26,10 @@ use Rattle.tracks.specs.Tracks.{total, traces, checkLengths, checkCounts, check
 use Rattle.tracks.proofs.Turns.{turn-first, turn-rest}
 use Rattle.tracks.proofs.Lengths.{Agreed, lengths-agree, Counted, counts-few}
 use Rattle.tracks.proofs.Unread.{SameMarked, same-fixes, same-check}
-use Rattle.fit.specs.FixLabels.{fixCount, allMedians, fixLabels}
+use Rattle.events.specs.FixLabels.{fixCount, allMedians, fixLabels}
 use Rattle.fit.specs.Demand.{Given, Demand3}
 use Rattle.fit.specs.Fit.{staySettings, Fitted, Outcome, refused, fitted, noneLabelled, unlessNone, givenBy, fromPlaces, fromMedians, fitTraces, unlessRefused, fit, givenOf}
-use Rattle.fit.proofs.Medians.{fix-labels-length}
+use Rattle.events.proofs.Medians.{fix-labels-length}
 use Rattle.fit.proofs.Theorem.{demand3}
 
 no-way : {A : Type 0} (e : Refusal) (f : Fitted) → refused e ≡ fitted f → A

@@ -1,3 +1,2 @@
-pub mod Medians
 pub mod Theorem
 pub mod Accepted

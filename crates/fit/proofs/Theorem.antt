@@ -30,9 +30,9 @@ use Rattle.rest.specs.KeptTrial.{KeptWith}
 use Rattle.cluster.specs.Cluster.{nodeNetwork, cluster}
 use Rattle.cluster.proofs.Labelled.{label-none, label-chain, node-label, labels-long}
 use Rattle.cluster.proofs.AtRest as at-rest
-use Rattle.fit.specs.FixLabels.{fixCount, allMedians, allLies, labelFor, fixLabels}
+use Rattle.events.specs.FixLabels.{fixCount, allMedians, allLies, labelFor, fixLabels}
 use Rattle.fit.specs.Demand.{minusOne, Given, Outside, LiesIn, Alone, linkedMedians, nodeAt, wholeLabel, shownGroups, net, NeighbourGroup, NewGroup, change, Demand3}
-use Rattle.fit.proofs.Medians.{lies-among, all-medians-few, label-at}
+use Rattle.events.proofs.Medians.{lies-among, all-medians-few, label-at}
 
 module _ (dist : Metric) (s : StaySettings) (r2 : Float) (single : Bool) (seed : ℕ) (ts : List (List Fix)) (fixes : fixCount ts ≤ 65536) (few : length (places (allMedians dist s ts)) ≤ 512) where
   abbrev ps : List Place

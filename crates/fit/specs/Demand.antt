@@ -22,7 +22,7 @@ use Rattle.scan.specs.Scan.{margin}
 use Rattle.infomap.specs.Infomap.{RunMark, rest}
 use Rattle.rest.specs.KeptTrial.{KeptWith}
 use Rattle.cluster.specs.Cluster.{nodeNetwork}
-use Rattle.fit.specs.FixLabels.{allLies}
+use Rattle.events.specs.FixLabels.{allLies}
 
 abbrev pub minusOne : ℤ
 minusOne = negsuc 0

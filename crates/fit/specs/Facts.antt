@@ -32,7 +32,7 @@ use Rattle.tracks.specs.Checks.{refuseIf, firstOf, inTurn, eachOf, eachFrom}
 use Rattle.tracks.specs.Settings.{unusable, checkTimeBounds, checkConfig}
 use Rattle.tracks.specs.Traces.{finitePoint, finiteTime, checkFix, untimed, partlyTimed, above, aboveFirst, inTimeOrder, checkTimes, checkTrace, checkFixSize, checkSize}
 use Rattle.tracks.specs.Tracks.{total, traces, sameLengths, checkLengths, checkCounts, checkWork, checkMark, checkContents, checkTracks}
-use Rattle.fit.specs.FixLabels.{fixCount, allMedians, allLies, labelFor, fixLabels}
+use Rattle.events.specs.FixLabels.{fixCount, allMedians, allLies, labelFor, fixLabels}
 use Rattle.fit.specs.Fit.{noneLabelled, unlessNone, givenBy, fromPlaces, fromMedians, fitTraces, unlessRefused, fit}
 use Rattle.fit.specs.Tries.{at, timed, twice, fitOf, number, labels, told, placeCount}
 

@@ -21,7 +21,7 @@ use Rattle.tracks.specs.declared.refusal.Checked.{Checked}
 use Rattle.tracks.specs.declared.refusal.Checked.the-variants.{Accepted, Refused}
 use Rattle.tracks.specs.Settings.{checkConfig}
 use Rattle.tracks.specs.Tracks.{traces, checkTracks}
-use Rattle.fit.specs.FixLabels.{allMedians, fixLabels}
+use Rattle.events.specs.FixLabels.{allMedians, fixLabels}
 use Rattle.fit.specs.Demand.{Given}
 
 -- The settings that stays are found by.

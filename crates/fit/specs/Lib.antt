@@ -1,4 +1,3 @@
-pub mod FixLabels
 pub mod Demand
 pub mod Fit
 pub mod Tries

@@ -1,5 +1,5 @@
 -- Medians and labels of the fixes of all traces (document 01, "Stays" and "Labels"). The distance is a parameter. Definitions only.
-use Prim.Native.Nat.{ℕ, zero, suc, _+_}
+use Prim.Native.Nat.{ℕ, _+_}
 use mathlib.Core.List.{List, [], _∷_, _++_, map}
 use mathlib.Core.Option.{Option, none, some}
 use lib.IntN.{ℤ, negsuc}

@@ -1,10 +1,10 @@
 -- Where the fixes of all traces lie, and how many medians there are.
-use mathlib.Core.Path.{_≡_, refl, sym, ap, _∙_, subst}
+use mathlib.Core.Path.{_≡_, refl, sym, _∙_}
 use mathlib.Core.Logic.{_⊎_, inl, inr}
 use mathlib.Core.Option.{Option, none, some}
 use mathlib.Core.Bool.{Bool, true, false, cond}
 use mathlib.Core.List.{List, [], _∷_, _++_, map}
-use Prim.Native.Nat.{ℕ, zero, suc, _+_, _<_, _≤_}
+use Prim.Native.Nat.{ℕ, zero, suc, _+_, _≤_}
 use native.Mathlib.Omega.{arith}
 use lib.IntN.{ℤ, negsuc}
 use lib.ListN.{length, getD, replicate, length-append, length-map}
@@ -14,10 +14,10 @@ use Rattle.stay.specs.Trace.{Fix, timed}
 use Rattle.stay.specs.Stays.{isStay, middle, groups, mediansOf, liesIn, stayMedians, lies}
 use Rattle.stay.proofs.Groups.{medians-few}
 use Rattle.stay.proofs.Lies.{lies-one-each}
-use Rattle.neighbors.specs.Places.{Place, placeOf}
+use Rattle.neighbors.specs.Places.{Place}
 use Rattle.neighbors.specs.Links.{Metric}
 use Rattle.neighbors.proofs.Found.{Among, among-left, among-right}
-use Rattle.fit.specs.FixLabels.{fixCount, allMedians, allLies, labelFor, fixLabels}
+use Rattle.events.specs.FixLabels.{fixCount, allMedians, allLies, labelFor, fixLabels}
 
 -- Some fix lies in a stay with the median m.
 abbrev SomeAt : List (Option Point) → Point → Type 0

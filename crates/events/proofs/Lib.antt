@@ -1,0 +1,4 @@
+pub mod Medians
+pub mod AllEvents
+pub mod AllStays
+pub mod Labels

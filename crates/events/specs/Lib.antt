@@ -1,0 +1,3 @@
+pub mod FixLabels
+pub mod Events
+pub mod Found
