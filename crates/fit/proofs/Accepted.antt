@@ -16,7 +16,7 @@ use Rattle.stay.specs.Trace.{Fix, fixes}
 use Rattle.stay.proofs.Fixes.{fixes-length}
 use Rattle.neighbors.specs.Places.{Place, places}
 use Rattle.neighbors.specs.Links.{Metric}
-use Rattle.cluster.specs.Cluster.{cluster}
+use Rattle.cluster.specs.Cluster.{cluster, noneLabelled}
 use Rattle.tracks.specs.declared.config.Config.{Config}
 use Rattle.tracks.specs.declared.refusal.Refusal.{Refusal}
 use Rattle.tracks.specs.declared.refusal.Checked.{Checked}
@@ -27,7 +27,7 @@ use Rattle.tracks.proofs.Turns.{turn-first, turn-rest}
 use Rattle.tracks.proofs.Lengths.{Agreed, lengths-agree, Counted, counts-few}
 use Rattle.fit.specs.FixLabels.{fixCount, allMedians, fixLabels}
 use Rattle.fit.specs.Demand.{Given, Demand3}
-use Rattle.fit.specs.Fit.{staySettings, Fitted, Outcome, refused, fitted, noneLabelled, unlessNone, givenBy, fromPlaces, fromMedians, fitTraces, unlessRefused, fit, givenOf}
+use Rattle.fit.specs.Fit.{staySettings, Fitted, Outcome, refused, fitted, unlessNone, givenBy, fromPlaces, fromMedians, fitTraces, unlessRefused, fit, givenOf}
 use Rattle.fit.proofs.Medians.{fix-labels-length}
 use Rattle.fit.proofs.Theorem.{demand3}
 
