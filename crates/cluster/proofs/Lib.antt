@@ -2,3 +2,9 @@ pub mod NodeNetwork
 pub mod Relabelled
 pub mod Labelled
 pub mod AtRest
+pub mod LabelCount
+pub mod Before
+pub mod Walk
+pub mod Clustered
+pub mod FoundNodes
+pub mod NoneLabelled

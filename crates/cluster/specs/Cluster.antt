@@ -1,6 +1,6 @@
 -- Labels of places (document 01, "Labels"; cluster.rs of the Rust). Definitions only.
 use Prim.Native.Nat.{ℕ, zero, suc, _+_, max}
-use mathlib.Core.Bool.{Bool, cond}
+use mathlib.Core.Bool.{Bool, true, false, cond}
 use mathlib.Core.List.{List, [], _∷_, map}
 use lib.IntN.{ℤ, pos, negsuc}
 use lib.ListN.{length, getD}
@@ -38,3 +38,9 @@ unfoldable pub cluster : Metric → Float → Bool → ℕ → List Place → Cl
 cluster dist r2 single seed ps =
     let k = runInfomap (nodeNetwork dist r2 ps) seed in
     record { labels = map (placeLabel single (nodes dist r2 ps) (singles dist r2 ps) (k .partition)) (upto (length ps)); mark = k .mark; rounds = k .rounds }
+
+-- All labels are -1.
+unfoldable pub noneLabelled : List ℤ → Bool
+noneLabelled [] = true
+noneLabelled (pos l ∷ ls) = false
+noneLabelled (negsuc l ∷ ls) = noneLabelled ls

@@ -1,1 +1,2 @@
 pub mod Cluster
+pub mod Slices

@@ -16,7 +16,7 @@ use Rattle.stay.specs.Trace.{Fix, fixes}
 use Rattle.stay.proofs.Fixes.{fixes-length}
 use Rattle.neighbors.specs.Places.{Place, places}
 use Rattle.neighbors.specs.Links.{Metric}
-use Rattle.cluster.specs.Cluster.{cluster}
+use Rattle.cluster.specs.Cluster.{cluster, noneLabelled}
 use Rattle.tracks.specs.declared.config.Config.{Config}
 use Rattle.tracks.specs.declared.refusal.Refusal.{Refusal}
 use Rattle.tracks.specs.declared.refusal.Checked.{Checked}
@@ -28,7 +28,7 @@ use Rattle.tracks.proofs.Lengths.{Agreed, lengths-agree, Counted, counts-few}
 use Rattle.tracks.proofs.Unread.{SameMarked, same-fixes, same-check}
 use Rattle.events.specs.FixLabels.{fixCount, allMedians, fixLabels}
 use Rattle.fit.specs.Demand.{Given, Demand3}
-use Rattle.fit.specs.Fit.{staySettings, Fitted, Outcome, refused, fitted, noneLabelled, unlessNone, givenBy, fromPlaces, fromMedians, fitTraces, unlessRefused, fit, givenOf}
+use Rattle.fit.specs.Fit.{staySettings, Fitted, Outcome, refused, fitted, unlessNone, givenBy, fromPlaces, fromMedians, fitTraces, unlessRefused, fit, givenOf}
 use Rattle.events.proofs.Medians.{fix-labels-length}
 use Rattle.fit.proofs.Theorem.{demand3}
 

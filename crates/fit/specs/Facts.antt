@@ -27,13 +27,13 @@ use Rattle.codelength.specs.Codelength.{addExit, exitFrom, addNode, addNodesFro
 use Rattle.scan.specs.Scan.{place, candidates, bestDelta, better, consider, scanFrom, scan, highestFrom, isolate}
 use Rattle.optimize.specs.Rounds.{act, pass, round, runRounds, optimizePartition}
 use Rattle.infomap.specs.Infomap.{trialMark, keep, trials, bestOfThree, keptGrouping, rank, relabelDense, runInfomap}
-use Rattle.cluster.specs.Cluster.{nodeNetwork, labelCount, placeLabel, cluster}
+use Rattle.cluster.specs.Cluster.{nodeNetwork, labelCount, placeLabel, cluster, noneLabelled}
 use Rattle.tracks.specs.Checks.{refuseIf, firstOf, inTurn, eachOf, eachFrom}
 use Rattle.tracks.specs.Settings.{unusable, checkTimeBounds, checkConfig}
 use Rattle.tracks.specs.Traces.{finitePoint, finiteTime, checkFix, untimed, partlyTimed, above, aboveFirst, inTimeOrder, checkTimes, checkTrace, checkFixSize, checkSize}
 use Rattle.tracks.specs.Tracks.{total, traces, sameLengths, checkLengths, checkCounts, checkWork, checkMark, checkContents, checkTracks}
 use Rattle.events.specs.FixLabels.{fixCount, allMedians, allLies, labelFor, fixLabels}
-use Rattle.fit.specs.Fit.{noneLabelled, unlessNone, givenBy, fromPlaces, fromMedians, fitTraces, unlessRefused, fit}
+use Rattle.fit.specs.Fit.{unlessNone, givenBy, fromPlaces, fromMedians, fitTraces, unlessRefused, fit}
 use Rattle.fit.specs.Tries.{at, timed, twice, fitOf, number, labels, told, placeCount}
 
 -- Of numbers.

@@ -3,7 +3,7 @@ use Prim.Native.Nat.{ℕ}
 use mathlib.Core.Bool.{Bool, true, false}
 use mathlib.Core.List.{List, [], _∷_}
 use lib.Dec.{ltb}
-use lib.IntN.{ℤ, pos, negsuc}
+use lib.IntN.{ℤ}
 use lib.ListN.{length}
 use lib.Ieee.{Float}
 use Rattle.distance.specs.declared.Point.{Point}
@@ -13,7 +13,7 @@ use Rattle.stay.specs.Trace.{Fix, fixes}
 use Rattle.neighbors.specs.Places.{Place, places}
 use Rattle.neighbors.specs.Links.{Metric}
 use Rattle.infomap.specs.Infomap.{RunMark}
-use Rattle.cluster.specs.Cluster.{Clustering, cluster}
+use Rattle.cluster.specs.Cluster.{Clustering, cluster, noneLabelled}
 use Rattle.tracks.specs.declared.config.Config.{Config}
 use Rattle.tracks.specs.declared.refusal.Refusal.{Refusal}
 use Rattle.tracks.specs.declared.refusal.Refusal.the-variants.{NoStop, TooManyPlaces}
@@ -40,12 +40,6 @@ pub record Fitted : Type 0 where
 pub data Outcome : Type 0 where
   refused : Refusal → Outcome
   fitted : Fitted → Outcome
-
--- All labels are -1.
-unfoldable pub noneLabelled : List ℤ → Bool
-noneLabelled [] = true
-noneLabelled (pos l ∷ ls) = false
-noneLabelled (negsuc l ∷ ls) = noneLabelled ls
 
 -- 18 for all labels -1.
 unfoldable pub unlessNone : Bool → Fitted → Outcome

@@ -1,0 +1,38 @@
+-- The number of labels, node by node.
+use mathlib.Core.Path.{_≡_, refl, sym, _∙_}
+use mathlib.Core.List.{List, [], _∷_}
+use Prim.Native.Nat.{ℕ, zero, suc, _+_, _<_, _≤_, max}
+use native.Mathlib.Nat.{le-max-left, le-max-right, max-le, max-zero, zero-max}
+use native.Mathlib.Numerals.{add-one}
+use native.Mathlib.Omega.{arith}
+use lib.ListN.{length, getD, drop, drop-of-length-le}
+use lib.Seq.{drop-cons}
+use Rattle.cluster.specs.Cluster.{labelCount}
+
+max-assoc : (a b c : ℕ) → max (max a b) c ≡ max a (max b c)
+max-assoc a b c = omega arith
+
+pub count-on : (gs : List ℕ) (m u : ℕ) {t m' : ℕ} → t ≡ max m (labelCount (drop u gs)) → u < length gs → m' ≡ max m (suc (getD gs u 0)) → t ≡ max m' (labelCount (drop (u + 1) gs))
+unfolding labelCount
+count-on gs m u e h q = e ∙ rw (drop-cons gs u 0, q, add-one u) (sym (max-assoc m (suc (getD gs u 0)) (labelCount (drop (suc u) gs))))
+
+-- A label is at most their number.
+pub label-le : (ls : List ℕ) (u : ℕ) → getD ls u 0 ≤ labelCount ls
+unfolding labelCount
+label-le [] u = omega arith
+label-le (l ∷ ls) zero = let a = le-max-left (suc l) (labelCount ls) in omega arith
+label-le (l ∷ ls) (suc u) = let a = le-max-right (suc l) (labelCount ls) in let b = label-le ls u in omega arith
+
+-- There is no label to start with, and none is left at the end.
+pub count-start : (gs : List ℕ) → labelCount gs ≡ max 0 (labelCount (drop 0 gs))
+count-start gs = sym (zero-max (labelCount gs))
+
+pub count-end : (gs : List ℕ) (m u : ℕ) {t : ℕ} → t ≡ max m (labelCount (drop u gs)) → length gs ≤ u → m ≡ t
+unfolding labelCount
+count-end gs m u e h = sym (e ∙ rw (drop-of-length-le gs {i = u} h) (max-zero m))
+
+-- No label is as large as their number.
+pub count-le : (ls : List ℕ) (m : ℕ) → ((u : ℕ) → u < length ls → getD ls u 0 < m) → labelCount ls ≤ m
+unfolding labelCount
+count-le [] m h = omega arith
+count-le (l ∷ ls) m h = max-le (let a = h 0 (omega arith) in omega arith) (count-le ls m (λ u k. h (suc u) (omega arith)))

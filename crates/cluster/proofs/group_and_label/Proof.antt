@@ -1,0 +1,60 @@
+-- `cluster::group_and_label` meets its contract.
+use mathlib.Core.Path.{_≡_, refl, sym, ap, _∙_}
+use native.Mathlib.Omega.{arith}
+use Prim.Native.Nat.{ℕ, _*_, _≤_}
+use lib.ListN.{length}
+use Rattle.map_state.specs.Network.{Network}
+use Rattle.infomap.specs.Infomap.{runInfomap}
+use Rattle.cluster.proofs.Clustered.{cells-few, cells-in, rows-front, labels-few, network-front, cluster-is}
+use borrow.Author.Needs.{needs}
+use Rattle.cluster.proofs.group_and_label.Statement.{statement}
+use Rattle.cluster.proofs.group_and_label.Tie as tie
+
+compact-requires : tie.Need-compact-requires
+compact-requires c κs = search needs
+
+mul-cells : tie.Need-mul-cells
+mul-cells c = let p = c .before .before .before .before .before .before .before .pre in record { fits = omega (arith, cells-few _ _ (p .4 .few) (p .0)) }
+
+sub-run-infomap : tie.Need-sub-run-infomap
+sub-run-infomap c = search needs
+
+part-run-infomap-start : tie.Need-part-run-infomap-start
+part-run-infomap-start c = search needs
+
+part-run-infomap-end : tie.Need-part-run-infomap-end
+part-run-infomap-end c = let p = c .before .before .before .before .before .before .before .before .pre in omega (arith, cells-in _ _ (p .4 .few), c .before .before .before .compact .kept .0, p .1)
+
+run-infomap-requires : tie.Need-run-infomap-requires
+run-infomap-requires c κs = let p = c .before .before .before .before .before .before .before .before .before .before .pre in rows-front _ (c .before .before .before .before .before .before .before .before .before .before .args .n) _ (p .4 .few) (p .0) (c .before .before .before .before .before .compact .kept .0 ∙ p .1) (p .2)
+
+label-places-requires : tie.Need-label-places-requires
+label-places-requires c κs = let p = c .before .before .before .before .before .before .before .before .before .before .before .before .before .before .before .pre in (omega (arith, p .3, p .0), omega (arith, labels-few _ _ _ (c .before .before .before .before .run-infomap .ensures), c .before .before .before .before .run-infomap .kept .1 .1 .0, p .2, p .4 .few, p .0))
+
+same-length : tie.Need-same-length
+same-length c = search needs
+
+same-length-2 : tie.Need-same-length-2
+same-length-2 c = search needs
+
+same-length-3 : tie.Need-same-length-3
+same-length-3 c = search needs
+
+returns : tie.Need-returns
+returns c = let p = c .before .before .before .before .before .before .before .before .before .before .before .before .before .before .before .before .before .pre in λ dist r2 ps e w q. cluster-is dist r2 ps _ _ _ q (p .3 ∙ sym e) (c .before .before .before .before .before .before .run-infomap .ensures ∙ ap (λ (x : Network). runInfomap x (c .before .before .before .before .before .before .before .before .before .before .before .before .before .before .before .before .before .args .seed)) (network-front dist r2 ps _ _ _ _ q (p .4) w (c .before .before .before .before .before .before .before .before .before .before .before .before .compact .ensures) (c .before .before .before .before .before .before .before .before .before .before .before .before .compact .kept .0 ∙ p .1) (p .2))) (c .before .label-places .ensures)
+
+pub group-and-label-spec : {M : Type 1} → statement M
+group-and-label-spec =
+    tie.close
+    (tie.spec
+    compact-requires
+    mul-cells
+    sub-run-infomap
+    part-run-infomap-start
+    part-run-infomap-end
+    run-infomap-requires
+    label-places-requires
+    same-length
+    same-length-2
+    same-length-3
+    returns)
