@@ -1,16 +1,15 @@
 -- (c) and (d) of demand 3 for places: what the mark 'rest' means, and that under it no single move of a node helps.
 use mathlib.Core.Path.{_≡_, refl, sym, ap, _∙_, subst}
 use mathlib.Core.Logic.{_≢_, _↔_, _⊎_, inl, inr}
-use mathlib.Core.Bool.{Bool, true, false, cond}
-use mathlib.Core.List.{List, [], _∷_}
-use Prim.Native.Nat.{ℕ, zero, suc, _+_, _<_, _≤_}
+use mathlib.Core.Bool.{Bool, true, false}
+use mathlib.Core.List.{List}
+use Prim.Native.Nat.{ℕ, _<_, _≤_}
 use native.Mathlib.Decide.{decLt}
 use native.Mathlib.Omega.{arith}
 use borrow.Author.Tests.{eqb-true, eq-eqb, ne-eqb}
-use lib.Dec.{eqb}
 use lib.ListN.{length, getD}
 use lib.Ieee.{Float, nan, lt, neg}
-use Rattle.lists.specs.Lists.{upto, Has}
+use Rattle.lists.specs.Lists.{upto}
 use Rattle.lists.proofs.Upto.{length-upto}
 use Rattle.lists.proofs.Tests.{clash}
 use Rattle.float.specs.Binary64.{zero64}
@@ -18,7 +17,7 @@ use Rattle.rng.specs.Rng.{seeded}
 use Rattle.map_state.specs.Network.{Network, row}
 use Rattle.map_state.specs.MapState.{MapState, deltaMove}
 use Rattle.codelength.specs.Codelength.{fromPartition}
-use Rattle.scan.specs.Scan.{margin, scan, isolate, move, nextFreeModule}
+use Rattle.scan.specs.Scan.{margin, isolate, move, nextFreeModule}
 use Rattle.optimize.specs.Rounds.{optimizePartition}
 use Rattle.infomap.specs.Infomap.{rest, keptGrouping, runInfomap, relabelDense}
 use Rattle.neighbors.specs.Places.{Place, stayCount}
@@ -33,8 +32,8 @@ use Rattle.rest.proofs.Quiet.{trial-keeps, trial-no-moves}
 use Rattle.rest.proofs.Answers.{scan-move, scan-none, isolate-move, isolate-none, next-free-above}
 use Rattle.rest.proofs.Marks.{TrialAtRest, kept-rest, kept-at-rest}
 use Rattle.cluster.specs.Cluster.{nodeNetwork, cluster}
-use Rattle.cluster.proofs.NodeNetwork.{w, node-whole, node-size, node-links, d-none, d-some}
-use Rattle.cluster.proofs.Relabelled.{relabel-alike, relabel-long}
+use Rattle.cluster.proofs.NodeNetwork.{w, node-whole, node-links, d-none, d-some}
+use Rattle.cluster.proofs.Relabelled.{relabel-alike}
 use Rattle.cluster.proofs.Labelled.{part-long}
 
 -- ---- any network of whole weights

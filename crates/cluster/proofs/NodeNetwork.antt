@@ -1,37 +1,36 @@
 -- The nodes' network: its weights are whole, its links are those of the places, and its D is above 0 exactly where there is a node.
 use mathlib.Core.Path.{_≡_, refl, sym, ap, ap₂, _∙_, subst}
-use mathlib.Core.Logic.{_≢_, _⊎_, inl, inr}
-use mathlib.Core.Bool.{Bool, true, false, true≢false}
+use mathlib.Core.Logic.{_≢_}
+use mathlib.Core.Bool.{true, false, true≢false}
 use mathlib.Core.List.{List, [], _∷_, map}
-use Prim.Native.Nat.{ℕ, zero, suc, _+_, _*_, _^_, _<_, _≤_}
-use native.Mathlib.Nat.{le-trans, zero-lt-suc}
+use Prim.Native.Nat.{ℕ, zero, suc, _*_, _^_, _<_, _≤_}
+use native.Mathlib.Nat.{le-trans}
 use native.Mathlib.Decide.{decLt}
 use native.Mathlib.Omega.{arith}
-use borrow.Author.Tests.{lt-ltb, le-ltb}
+use borrow.Author.Tests.{lt-ltb}
 use lib.Dec.{ltb, lit≤}
-use lib.ListN.{length, getD, take, drop, length-map, length-drop}
+use lib.ListN.{length, getD, drop, length-map, length-drop}
 use lib.Seq.{ext-getD, getD-take, getD-drop, length-take-le}
 use lib.Ieee.{Float, nan, lt}
 use Rattle.lists.specs.Lists.{Has, position}
 use Rattle.lists.specs.Sums.{sum}
 use Rattle.lists.proofs.Members.{getD-position, position-lt}
-use Rattle.lists.proofs.Tests.{clash}
-use Rattle.float.specs.Binary64.{whole64, zero64}
+use Rattle.float.specs.Binary64.{zero64}
 use Rattle.float.proofs.Exact.{most}
 use Rattle.neighbors.specs.Places.{Place, stayCount}
-use Rattle.neighbors.specs.Links.{Metric, link, weight, wholeWeight, linked, nodes}
+use Rattle.neighbors.specs.Links.{Metric, link, weight, wholeWeight, nodes}
 use Rattle.neighbors.specs.Tables.{tableOf}
 use Rattle.neighbors.specs.Chains.{Chain, alone, step}
 use Rattle.neighbors.proofs.Cells.{row-before}
 use Rattle.neighbors.proofs.Found.{Counted}
 use Rattle.neighbors.proofs.Linked.{link-self, link-sym}
 use Rattle.neighbors.proofs.LinkWeights.{weight-whole, whole-sym, whole-self, weight-above, linked-above, weights-few}
-use Rattle.neighbors.proofs.NodeList.{node-lt, node-linked, linked-node, linked-link, link-linked, node-at, nodes-few}
+use Rattle.neighbors.proofs.NodeList.{node-lt, linked-node, link-linked, node-at, nodes-few}
 use Rattle.neighbors.proofs.NodeTable.{length-table, cell-table}
-use Rattle.map_state.specs.Network.{Network, rowAt, row, network}
+use Rattle.map_state.specs.Network.{Network, rowAt, row}
 use Rattle.whole.specs.Whole.{wholes, WholeWeights}
 use Rattle.whole.proofs.WholeNetwork.{whole-network, whole-size, d-above, link-above, above, same}
-use Rattle.rest.specs.Ways.{Linked, BothWays, Way, end, go}
+use Rattle.rest.specs.Ways.{BothWays, Way, end, go}
 use Rattle.cluster.specs.Cluster.{nodeNetwork}
 
 map-wholes : (dist : Metric) (r2 : Float) (ps : List Place) (i : ℕ) (l : List ℕ) → map (weight dist r2 ps i) l ≡ wholes (length l) (λ v. wholeWeight dist r2 ps i (getD l v 0))

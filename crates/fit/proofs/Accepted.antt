@@ -2,12 +2,12 @@
 use mathlib.Core.Path.{_≡_, refl, sym, ap, _∙_, subst}
 use mathlib.Core.Bool.{Bool, true, false}
 use mathlib.Core.List.{List, [], _∷_}
-use Prim.Native.Nat.{ℕ, zero, suc, _+_, _<_, _≤_}
+use Prim.Native.Nat.{ℕ, _≤_}
 use native.Mathlib.Nat.{le-trans}
 use native.Mathlib.Omega.{arith}
 use borrow.Author.Tests.{ltb-false}
 use lib.Dec.{ltb}
-use lib.ListN.{length, take, drop, length-take, length-drop}
+use lib.ListN.{length, drop, length-drop}
 use lib.Seq.{length-take-le}
 use lib.Ieee.{Float}
 use Rattle.distance.specs.declared.Point.{Point}
@@ -22,12 +22,12 @@ use Rattle.tracks.specs.declared.refusal.Refusal.{Refusal}
 use Rattle.tracks.specs.declared.refusal.Checked.{Checked}
 use Rattle.tracks.specs.declared.refusal.Checked.the-variants.{Accepted, Refused}
 use Rattle.tracks.specs.Settings.{checkConfig}
-use Rattle.tracks.specs.Tracks.{total, traces, checkLengths, checkCounts, checkWork, checkContents, checkTracks}
+use Rattle.tracks.specs.Tracks.{total, traces, checkLengths, checkCounts, checkTracks}
 use Rattle.tracks.proofs.Turns.{turn-first, turn-rest}
 use Rattle.tracks.proofs.Lengths.{Agreed, lengths-agree, Counted, counts-few}
 use Rattle.tracks.proofs.Unread.{SameMarked, same-fixes, same-check}
-use Rattle.events.specs.FixLabels.{fixCount, allMedians, fixLabels}
-use Rattle.fit.specs.Demand.{Given, Demand3}
+use Rattle.events.specs.FixLabels.{fixCount, allMedians}
+use Rattle.fit.specs.Demand.{Demand3}
 use Rattle.fit.specs.Fit.{staySettings, Fitted, Outcome, refused, fitted, unlessNone, givenBy, fromPlaces, fromMedians, fitTraces, unlessRefused, fit, givenOf}
 use Rattle.events.proofs.Medians.{fix-labels-length}
 use Rattle.fit.proofs.Theorem.{demand3}

@@ -4,14 +4,12 @@ use mathlib.Core.Logic.{_≢_, _↔_, _⊎_, inl, inr}
 use mathlib.Core.Option.{Option, none, some}
 use mathlib.Core.Bool.{Bool, true, false}
 use mathlib.Core.List.{List, [], _∷_, map}
-use Prim.Native.Nat.{ℕ, zero, suc, _+_, _<_, _≤_}
-use native.Mathlib.Nat.{le-trans}
+use Prim.Native.Nat.{ℕ, zero, suc, _<_, _≤_}
 use native.Mathlib.Omega.{arith}
-use lib.IntN.{ℤ, pos, negsuc, pos-ne-negsuc}
+use lib.IntN.{ℤ, pos, pos-ne-negsuc}
 use lib.ListN.{length, getD, length-map}
 use lib.Seq.{ext-getD}
 use lib.Ieee.{Float, lt, neg}
-use Rattle.lists.specs.Lists.{Has, position}
 use Rattle.lists.proofs.Tests.{clash}
 use Rattle.distance.specs.declared.Point.{Point}
 use Rattle.stay.specs.declared.StaySettings.{StaySettings}
@@ -31,7 +29,7 @@ use Rattle.cluster.specs.Cluster.{nodeNetwork, cluster}
 use Rattle.cluster.proofs.Labelled.{label-none, label-chain, node-label, labels-long}
 use Rattle.cluster.proofs.AtRest as at-rest
 use Rattle.events.specs.FixLabels.{fixCount, allMedians, allLies, labelFor, fixLabels}
-use Rattle.fit.specs.Demand.{minusOne, Given, Outside, LiesIn, Alone, linkedMedians, nodeAt, wholeLabel, shownGroups, net, NeighbourGroup, NewGroup, change, Demand3}
+use Rattle.fit.specs.Demand.{minusOne, Given, Outside, LiesIn, Alone, wholeLabel, shownGroups, NeighbourGroup, NewGroup, change, Demand3}
 use Rattle.events.proofs.Medians.{lies-among, all-medians-few, label-at}
 
 module _ (dist : Metric) (s : StaySettings) (r2 : Float) (single : Bool) (seed : ℕ) (ts : List (List Fix)) (fixes : fixCount ts ≤ 65536) (few : length (places (allMedians dist s ts)) ≤ 512) where

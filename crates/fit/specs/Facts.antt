@@ -1,10 +1,8 @@
 -- Document 01's starred facts, proved together about the definitions by computing them.
 use mathlib.Core.Path.{_≡_, refl}
-use mathlib.Core.Bool.{not}
-use mathlib.Core.List.{List, [], _∷_}
-use Prim.Native.Nat.{ℕ, suc}
-use lib.IntN.{ℤ, pos}
-use lib.Ieee.{Float, binary64, size, span, add, sub, mul, div, neg, lt, eq, le, ne, ofInt, ofBits, toBits, isNan}
+use mathlib.Core.List.{[], _∷_}
+use lib.IntN.{pos}
+use lib.Ieee.{binary64, size, add, sub, mul, div, neg, lt, eq, le, ne, ofInt, ofBits, toBits, isNan}
 use Rattle.lists.specs.Lists.{from, upto, member, position, anyOf, select}
 use Rattle.float.specs.Binary64.{whole64, zero64, one64, finite, sameBits}
 use Rattle.float.specs.Root.{root}

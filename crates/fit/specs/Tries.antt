@@ -7,7 +7,6 @@ use lib.IntN.{ℤ}
 use lib.ListN.{length}
 use lib.Ieee.{Float}
 use Rattle.float.specs.Binary64.{whole64, zero64}
-use Rattle.neighbors.specs.Places.{Place}
 use Rattle.tracks.specs.declared.config.Config.{Config}
 use Rattle.tracks.specs.Refusals.{numberOf}
 use Rattle.fit.specs.Fit.{Outcome, refused, fitted, fit}

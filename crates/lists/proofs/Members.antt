@@ -1,17 +1,17 @@
 -- Items of a list: membership, places, and what a selection keeps.
 use mathlib.Core.Path.{_≡_, refl, sym, ap, _∙_}
-use mathlib.Core.Logic.{_⊎_, inl, inr}
+use mathlib.Core.Logic.{inl, inr}
 use Prim.Native.Nat.{ℕ, zero, suc, _+_, _<_, _≤_}
-use native.Mathlib.Nat.{zero-lt-suc, suc-ne-zero}
+use native.Mathlib.Nat.{zero-lt-suc}
 use native.Mathlib.Omega.{arith}
-use mathlib.Core.Bool.{Bool, true, false, not, _||_, cond, true≢false, false≢true}
+use mathlib.Core.Bool.{Bool, true, false, _||_, cond, true≢false, false≢true}
 use mathlib.Core.List.{List, [], _∷_}
 use borrow.Author.Tests.{eqb-true, eqb-false, ne-eqb}
 use lib.Dec.{eqb}
 use lib.ListN.{length, getD}
 use Rattle.lists.specs.Lists.{from, upto, Has, member, position, anyOf, select}
 use Rattle.lists.proofs.Tests.{eqb-self, or-true}
-use Rattle.lists.proofs.Upto.{from-above, upto-has, has-upto}
+use Rattle.lists.proofs.Upto.{from-above}
 
 pub has-at : (l : List ℕ) (v : ℕ) → v < length l → Has l (getD l v 0)
 has-at [] v h = absurd (omega arith)

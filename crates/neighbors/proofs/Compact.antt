@@ -1,14 +1,14 @@
 -- A table made one of some of its rows and columns, in place.
-use mathlib.Core.Path.{_≡_, refl, sym, ap, _∙_}
+use mathlib.Core.Path.{_≡_, refl, _∙_}
 use mathlib.Core.List.{List}
-use Prim.Native.Nat.{ℕ, zero, suc, _+_, _*_, _<_, _≤_}
+use Prim.Native.Nat.{ℕ, _+_, _*_, _<_, _≤_}
 use native.Mathlib.Nat.{mul-le-mul, suc-mul}
 use native.Mathlib.Numerals.{add-one}
 use native.Mathlib.Omega.{arith}
 use lib.ListN.{length, getD, set}
 use lib.Seq.{getD-set-other}
 use lib.Ieee.{Float, nan}
-use Rattle.neighbors.specs.Tables.{Tabled, Rising, Compacted}
+use Rattle.neighbors.specs.Tables.{Rising, Compacted}
 use Rattle.neighbors.proofs.Cells.{in-table, few-cells, tabled-none, tabled-less, tabled-on}
 
 module _ (n : ℕ) (ns : List ℕ) (r : Rising n ns) where

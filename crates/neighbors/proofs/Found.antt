@@ -1,14 +1,14 @@
 -- A median's place is found again, and every place has a stay.
-use mathlib.Core.Path.{_≡_, refl, sym, ap, _∙_, subst}
+use mathlib.Core.Path.{_≡_, refl, sym, _∙_, subst}
 use mathlib.Core.Logic.{_⊎_, inl, inr}
 use mathlib.Core.Bool.{Bool, true, false, cond}
 use mathlib.Core.List.{List, [], _∷_, _++_}
 use Prim.Native.Nat.{ℕ, zero, suc, _+_, _<_, _≤_}
 use native.Mathlib.Nat.{zero-lt-suc}
 use native.Mathlib.Omega.{arith}
-use lib.ListN.{length, getD}
+use lib.ListN.{length}
 use Rattle.distance.specs.declared.Point.{Point}
-use Rattle.neighbors.specs.Places.{Place, samePlace, placeOf, sighted, sightedAll, places, stayCount, placeAt, noPlace}
+use Rattle.neighbors.specs.Places.{Place, samePlace, placeOf, sighted, sightedAll, places, stayCount, placeAt}
 use Rattle.neighbors.proofs.SameBits.{same-self}
 use Rattle.neighbors.proofs.Sighted.{counted-all, count-le, longer-all}
 

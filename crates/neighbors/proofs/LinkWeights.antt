@@ -1,8 +1,8 @@
 -- Link weights: they are whole numbers, above 0 exactly where two places link, and their sums are small.
-use mathlib.Core.Path.{_≡_, refl, sym, ap, ap₂, _∙_, subst}
+use mathlib.Core.Path.{_≡_, refl, sym, ap, _∙_}
 use mathlib.Core.Bool.{Bool, true, false, cond}
 use mathlib.Core.List.{List}
-use Prim.Native.Nat.{ℕ, zero, suc, _+_, _*_, _^_, _<_, _≤_, max}
+use Prim.Native.Nat.{ℕ, _*_, _^_, _<_, _≤_, max}
 use native.Mathlib.Nat.{max-comm, max-le, le-max-left, le-trans, mul-le-mul}
 use native.Mathlib.Omega.{arith}
 use borrow.Author.Tests.{lt-ltb}
@@ -11,7 +11,6 @@ use lib.ListN.{length}
 use lib.Ieee.{Float, lt, ofBits}
 use Rattle.lists.specs.Sums.{sum}
 use Rattle.lists.proofs.Sums.{sum-times}
-use Rattle.lists.proofs.Tests.{clash}
 use Rattle.float.specs.Binary64.{whole64, zero64}
 use Rattle.float.proofs.Exact.{most, whole-lt, zero-whole}
 use Rattle.neighbors.specs.Places.{Place, placeAt, stayCount}

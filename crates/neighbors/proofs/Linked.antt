@@ -1,9 +1,9 @@
 -- Links: they go both ways, no place links to itself, and what the table's cells are worked out from.
-use mathlib.Core.Path.{_≡_, refl, sym, ap, ap₂, _∙_, subst}
+use mathlib.Core.Path.{_≡_, refl, sym, _∙_, subst}
 use mathlib.Core.Logic.{_≢_}
-use mathlib.Core.Bool.{Bool, true, false, not, _&&_, cond}
+use mathlib.Core.Bool.{true, false, not, _&&_, cond}
 use mathlib.Core.List.{List, [], _∷_}
-use Prim.Native.Nat.{ℕ, zero, suc, _+_, _<_, _≤_, max}
+use Prim.Native.Nat.{ℕ, zero, suc, _<_, _≤_, max}
 use native.Mathlib.Nat.{max-comm}
 use native.Mathlib.Decide.{ℕ-discrete, decLt}
 use native.Mathlib.Omega.{arith}
@@ -11,14 +11,11 @@ use borrow.Author.Tests.{eq-eqb, ne-eqb, le-leb, lt-leb}
 use lib.Dec.{leb, eqb}
 use lib.ListN.{length, getD}
 use lib.Ieee.{Float, nan, le}
-use Rattle.lists.specs.Lists.{upto, Has, anyOf, select}
-use Rattle.lists.proofs.Tests.{eqb-self, and-left, and-right, clash}
-use Rattle.lists.proofs.Upto.{upto-has, has-upto}
-use Rattle.lists.proofs.Members.{any-has, has-any, select-has, select-in, select-true, select-position, has-at}
+use Rattle.lists.proofs.Tests.{eqb-self}
 use Rattle.float.specs.Binary64.{whole64, zero64}
 use Rattle.distance.specs.declared.Point.{Point}
-use Rattle.neighbors.specs.Places.{Place, placesIn, placeAt, noPlace}
-use Rattle.neighbors.specs.Links.{Metric, apart, link, weight, linked, nodes, singles}
+use Rattle.neighbors.specs.Places.{Place, placesIn, placeAt}
+use Rattle.neighbors.specs.Links.{Metric, apart, link, weight}
 
 module _ (dist : Metric) (r2 : Float) (ps : List Place) where
   apart-sym : (i j : ℕ) → i ≢ j → apart dist ps i j ≡ apart dist ps j i

@@ -1,13 +1,13 @@
 -- The nodes: each has a link, no single has one, and the table of weights shows them.
-use mathlib.Core.Path.{_≡_, refl, sym, ap, _∙_, subst}
+use mathlib.Core.Path.{_≡_, refl, ap, _∙_}
 use mathlib.Core.Bool.{Bool, true, false, not}
 use mathlib.Core.List.{List}
-use Prim.Native.Nat.{ℕ, zero, suc, _+_, _*_, _<_, _≤_}
+use Prim.Native.Nat.{ℕ, _+_, _*_, _<_, _≤_}
 use native.Mathlib.Omega.{arith}
-use borrow.Author.Tests.{not-true, not-false}
+use borrow.Author.Tests.{not-true}
 use lib.ListN.{length, getD}
 use lib.Ieee.{Float, nan, lt}
-use Rattle.lists.specs.Lists.{upto, Has, member, position, anyOf, select}
+use Rattle.lists.specs.Lists.{upto, Has, position}
 use Rattle.lists.proofs.Tests.{clash}
 use Rattle.lists.proofs.Upto.{length-upto, upto-has, has-upto}
 use Rattle.lists.proofs.Members.{has-at, any-has, has-any, any-like, select-like, select-has, select-true, select-in, select-length, select-at-least, select-position}

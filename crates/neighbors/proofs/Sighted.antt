@@ -1,9 +1,8 @@
 -- One more stay: where the places stand after it, and that it is counted once.
-use mathlib.Core.Path.{_≡_, refl, sym, ap, ap₂, _∙_, subst}
+use mathlib.Core.Path.{_≡_, refl, sym, ap, _∙_, subst}
 use mathlib.Core.Bool.{Bool, true, false, cond}
 use mathlib.Core.List.{List, [], _∷_, _++_}
-use Prim.Native.Nat.{ℕ, zero, suc, _+_, _<_, _≤_, min}
-use native.Mathlib.Nat.{zero-lt-suc}
+use Prim.Native.Nat.{ℕ, zero, suc, _+_, _<_, _≤_}
 use native.Mathlib.Numerals.{add-one}
 use native.Mathlib.Omega.{arith}
 use borrow.Author.Tests.{lt-leb, le-leb}
@@ -11,8 +10,7 @@ use lib.ListN.{length, getD, set, take, drop, drop-of-length-le}
 use lib.Seq.{drop-cons, take-set-lt, take-suc-set, length-take-le, getD-take}
 use lib.Ieee.{Float, nan}
 use Rattle.distance.specs.declared.Point.{Point}
-use Rattle.neighbors.specs.Places.{Place, samePlace, placeOf, sighted, sightedAll, places, stayCount, points, placesIn, front, placeAt, noPlace, distinctWithin}
-use Rattle.neighbors.specs.declared.places.PlaceCount.{PlaceCount}
+use Rattle.neighbors.specs.Places.{Place, samePlace, placeOf, sighted, sightedAll, places, stayCount, points, placesIn, front, placeAt, distinctWithin}
 use Rattle.neighbors.specs.declared.places.PlaceCount.the-variants.{Places, TooMany}
 
 pub length-placesIn : (xs ys : List Float) (cs : List ℕ) → length ys ≡ length xs → length cs ≡ length xs → length (placesIn xs ys cs) ≡ length xs

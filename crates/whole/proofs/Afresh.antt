@@ -1,29 +1,28 @@
 -- The sums that `fromPartition` makes are the whole numbers of the partition.
 use mathlib.Core.Path.{_≡_, refl, sym, ap, ap₂, _∙_, subst}
-use mathlib.Core.Logic.{_≢_}
-use mathlib.Core.Bool.{Bool, true, false, cond}
-use mathlib.Core.List.{List, [], _∷_}
+use mathlib.Core.Bool.{Bool}
+use mathlib.Core.List.{List}
 use Prim.Native.Nat.{ℕ, zero, suc, _+_, _-_, _^_, _<_, _≤_}
 use native.Mathlib.Nat.{le-trans, add-zero}
 use native.Mathlib.Decide.{ℕ-discrete, decLt}
 use native.Mathlib.Omega.{arith}
 use borrow.Author.Tests.{eq-eqb, ne-eqb}
 use lib.Dec.{eqb}
-use lib.ListN.{length, getD, set, replicate, length-set, length-replicate, getD-replicate}
+use lib.ListN.{length, getD, set, length-set, length-replicate, getD-replicate}
 use lib.Seq.{getD-set-same, getD-set-other}
 use lib.Ieee.{Float, nan}
 use Rattle.lists.specs.Sums.{sum, only}
-use Rattle.lists.proofs.Sums.{sum-le, sum-last, sum-more, sum-zero, sum-at, only-le}
+use Rattle.lists.proofs.Sums.{sum-last, sum-more, sum-zero}
 use Rattle.float.specs.Binary64.{add64, whole64, zero64}
-use Rattle.float.proofs.Exact.{most, whole-add, zero-whole}
+use Rattle.float.proofs.Exact.{whole-add, zero-whole}
 use Rattle.map_state.specs.Network.{Network, row}
-use Rattle.map_state.specs.MapState.{lowest, count, statsAt}
+use Rattle.map_state.specs.MapState.{lowest, statsAt}
 use Rattle.map_state.specs.declared.ModuleStats.{ModuleStats}
 use Rattle.map_state.proofs.Leaders.{lowest-of, getD-any, stats-none, count-none}
-use Rattle.map_state.proofs.Groups.{lowest-at, apart}
-use Rattle.codelength.specs.Codelength.{exitFrom, Sums, sumsOf, addNode, addNodesFrom, noSums, moduleSums, fromPartition}
+use Rattle.map_state.proofs.Groups.{apart}
+use Rattle.codelength.specs.Codelength.{exitFrom, Sums, addNode, addNodesFrom, noSums, moduleSums, fromPartition}
 use Rattle.whole.specs.Whole.{wholes, WholeWeights, into, outOf, exitOf, strengthOf, wholeStats}
-use Rattle.whole.proofs.WholeSums.{out-le, exit-whole}
+use Rattle.whole.proofs.WholeSums.{exit-whole}
 use Rattle.whole.proofs.WholeMoves.{row-le, exit-le, strength-le}
 
 pub stats-path : {e e' s s' : Float} {c c' : ℕ} → e ≡ e' → s ≡ s' → c ≡ c' → _≡_ {A = ModuleStats} (record { exit = e; strength = s; «n_nodes» = c }) (record { exit = e'; strength = s'; «n_nodes» = c' })

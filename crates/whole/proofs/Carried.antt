@@ -1,25 +1,23 @@
 -- The sums that the run carries are those made afresh, and so is the change of codelength that it works out.
-use mathlib.Core.Path.{_≡_, refl, sym, ap, ap₂, _∙_, subst}
+use mathlib.Core.Path.{_≡_, refl, sym, ap, _∙_, subst}
 use mathlib.Core.Logic.{_≢_}
 use mathlib.Core.Bool.{Bool, true, false, cond}
-use mathlib.Core.List.{List, [], _∷_}
+use mathlib.Core.List.{List}
 use Prim.Native.Nat.{ℕ, zero, suc, _+_, _-_, _^_, _<_, _≤_}
 use native.Mathlib.Nat.{le-trans}
 use native.Mathlib.Decide.{ℕ-discrete, decLt}
 use native.Mathlib.Omega.{arith}
 use borrow.Author.Tests.{eqb-true}
-use lib.Dec.{eqb}
 use lib.ListN.{length, getD, set, length-set}
-use lib.Ieee.{Float, nan, neg}
+use lib.Ieee.{Float, nan}
 use Rattle.lists.specs.Sums.{sum}
-use Rattle.float.specs.Binary64.{add64, sub64, div64, whole64, zero64}
-use Rattle.float.proofs.Exact.{most, whole-add, whole-sub, add-minus-minus, add-plus-minus}
+use Rattle.float.specs.Binary64.{add64, div64, whole64, zero64}
+use Rattle.float.proofs.Exact.{whole-add, whole-sub, add-minus-minus, add-plus-minus}
 use Rattle.map_state.specs.Network.{Network, row}
-use Rattle.map_state.specs.MapState.{MapState, lowest, count, leads, statsAt, statsOf, sumQFrom, sumQ, linkWeights, afterMove, movedFrom, movedBy, modulePairDelta, deltaFrom, deltaMove, applyMove}
-use Rattle.map_state.specs.declared.Links.{Links}
+use Rattle.map_state.specs.MapState.{MapState, lowest, leads, statsAt, statsOf, sumQFrom, sumQ, linkWeights, afterMove, movedFrom, movedBy, deltaFrom, deltaMove, applyMove}
 use Rattle.map_state.specs.declared.ModuleStats.{ModuleStats}
 use Rattle.map_state.specs.declared.Moved.{Moved}
-use Rattle.map_state.proofs.Leaders.{lowest-of, getD-any}
+use Rattle.map_state.proofs.Leaders.{getD-any}
 use Rattle.map_state.proofs.Groups as groups
 use Rattle.codelength.specs.Codelength.{fromPartition}
 use Rattle.whole.specs.Whole.{wholes, WholeWeights, into, outOf, aside, exitOf, strengthOf, wholeStats}

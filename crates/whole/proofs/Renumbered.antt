@@ -2,7 +2,7 @@
 use mathlib.Core.Path.{_≡_, refl, sym, ap, ap₂, _∙_, subst}
 use mathlib.Core.Bool.{Bool, true, false, cond}
 use mathlib.Core.List.{List, [], _∷_}
-use Prim.Native.Nat.{ℕ, zero, suc, _+_, _<_, _≤_}
+use Prim.Native.Nat.{ℕ, zero, suc, _+_, _<_}
 use native.Mathlib.Nat.{zero-lt-suc}
 use native.Mathlib.Omega.{arith}
 use lib.Dec.{eqb}
@@ -14,7 +14,6 @@ use Rattle.float.specs.Binary64.{add64, div64, whole64, zero64}
 use Rattle.map_state.specs.Network.{Network, row}
 use Rattle.map_state.specs.MapState.{lowest, count, leads, statsOf, sumQFrom, sumQ, addLink, linkWeightsFrom, linkWeights, afterMove, modulePairDelta, movedFrom, deltaFrom, deltaMove}
 use Rattle.map_state.specs.declared.Links.{Links}
-use Rattle.map_state.specs.declared.ModuleStats.{ModuleStats}
 use Rattle.codelength.specs.Codelength.{fromPartition}
 use Rattle.whole.specs.Whole.{WholeWeights, into, outOf, exitOf, strengthOf, wholeStats, Match, Alike}
 use Rattle.whole.proofs.Afresh.{stats-path}

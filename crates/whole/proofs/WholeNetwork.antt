@@ -1,22 +1,21 @@
 -- A table of whole weights makes a network of whole weights, whose D is above 0 exactly where it has a link.
 use mathlib.Core.Path.{_≡_, refl, sym, ap, ap₂, _∙_, subst}
-use mathlib.Core.Bool.{Bool, true, false, cond}
-use mathlib.Core.List.{List, [], _∷_}
+use mathlib.Core.Bool.{false}
+use mathlib.Core.List.{List, _∷_}
 use Prim.Native.Nat.{ℕ, zero, suc, _+_, _-_, _*_, _^_, _<_, _≤_}
 use native.Mathlib.Nat.{le-trans, zero-lt-suc, add-zero}
-use native.Mathlib.Decide.{decLt}
 use native.Mathlib.Omega.{arith}
-use borrow.Author.Tests.{lt-ltb, le-ltb}
-use lib.Dec.{T, ltb}
+use borrow.Author.Tests.{lt-ltb}
+use lib.Dec.{ltb}
 use lib.ListN.{length, getD, drop}
-use lib.Ieee.{Float, nan, fin, binary64, lt, mul, round, ofBits}
+use lib.Ieee.{Float, nan, binary64, lt, mul, ofBits}
 use lib.Ieee.Exact.{HasValue}
-use lib.Ieee.Positive.{positive, positive-of-value, mul-at}
+use lib.Ieee.Positive.{positive-of-value, mul-at}
 use Rattle.lists.specs.Sums.{sum}
-use Rattle.lists.proofs.Sums.{sum-ext, sum-le, sum-split, sum-at, sum-more, sum-last}
-use Rattle.float.specs.Binary64.{add64, mul64, whole64, zero64, two64}
+use Rattle.lists.proofs.Sums.{sum-ext, sum-le, sum-split, sum-at}
+use Rattle.float.specs.Binary64.{mul64, whole64, zero64, two64}
 use Rattle.float.proofs.Exact.{most, is-whole, whole-round, zero-whole}
-use Rattle.map_state.specs.Network.{Network, rowAt, row, addWeights, strengthsFrom, strengthsOf, totalFrom, network}
+use Rattle.map_state.specs.Network.{rowAt, row, addWeights, strengthsFrom, totalFrom, network}
 use Rattle.map_state.proofs.Rows.{length-strengths}
 use Rattle.whole.specs.Whole.{wholes, WholeWeights}
 use Rattle.whole.proofs.WholeSums.{add-above, above-zero}

@@ -1,17 +1,17 @@
 -- Weights into a group, out of it and aside, as whole numbers; and the run's sums along a row are these.
-use mathlib.Core.Path.{_≡_, refl, sym, ap, ap₂, _∙_, subst}
+use mathlib.Core.Path.{_≡_, refl, sym, ap, _∙_}
 use mathlib.Core.Logic.{_≢_}
 use mathlib.Core.Bool.{Bool, true, false, _||_, cond, true≢false}
 use mathlib.Core.List.{List, [], _∷_}
-use Prim.Native.Nat.{ℕ, zero, suc, _+_, _^_, _<_, _≤_}
-use native.Mathlib.Nat.{add-zero, le-trans}
+use Prim.Native.Nat.{ℕ, zero, suc, _+_, _≤_}
+use native.Mathlib.Nat.{add-zero}
 use native.Mathlib.Omega.{arith}
 use borrow.Author.Tests.{eqb-true, ne-eqb, lt-ltb}
 use lib.Dec.{ltb, eqb}
 use lib.ListN.{length, getD}
 use lib.Ieee.{Float, lt}
 use Rattle.lists.specs.Sums.{sum, only}
-use Rattle.lists.proofs.Sums.{sum-ext, sum-add, sum-le, only-le}
+use Rattle.lists.proofs.Sums.{sum-ext, sum-add}
 use Rattle.float.specs.Binary64.{add64, whole64, zero64}
 use Rattle.float.proofs.Exact.{most, whole-add, whole-lt, zero-whole}
 use Rattle.map_state.specs.declared.Links.{Links}

@@ -1,7 +1,7 @@
 -- Networks whose weights are whole numbers, and the sums of a partition as whole numbers. Definitions only.
 use mathlib.Core.Path.{_≡_}
-use Prim.Native.Nat.{ℕ, zero, suc, _+_, _^_, _<_, _≤_}
-use mathlib.Core.Bool.{Bool, _||_, cond}
+use Prim.Native.Nat.{ℕ, zero, suc, _^_, _<_, _≤_}
+use mathlib.Core.Bool.{_||_, cond}
 use mathlib.Core.List.{List, [], _∷_}
 use lib.Dec.{eqb}
 use lib.ListN.{length, getD}
