@@ -3,17 +3,17 @@ use mathlib.Core.Path.{_≡_, refl, sym, ap, _∙_, subst}
 use mathlib.Core.Logic.{_≢_}
 use mathlib.Core.Bool.{Bool, true, false, not, _&&_, cond}
 use mathlib.Core.List.{List, [], _∷_, _++_}
-use Prim.Native.Nat.{ℕ, zero, suc, _+_, _-_, _<_, _≤_}
+use Prim.Native.Nat.{ℕ, zero, suc, _+_, _-_, _<_}
 use native.Mathlib.Decide.{decLt}
 use native.Mathlib.Omega.{arith}
 use borrow.Author.Tests.{lt-ltb, le-ltb, eq-eqb, ne-eqb}
 use lib.Dec.{eqb, ltb}
 use lib.ListN.{length, getD, length-append}
-use lib.Seq.{getD-append-add}
+use lib.Seq.{getD-append-seam}
 use Rattle.lists.specs.Lists.{from, upto, member, position, select}
 use Rattle.lists.proofs.Tests.{clash}
-use Rattle.lists.proofs.Upto.{length-upto, upto-has}
-use Rattle.lists.proofs.Members.{has-at, member-has, has-member, select-has, select-true, select-length, select-position}
+use Rattle.lists.proofs.Upto.{upto-has}
+use Rattle.lists.proofs.Members.{has-at, member-has, has-member, select-has, select-true, select-position}
 
 select-append : (f : ℕ → Bool) (a b : List ℕ) → select f (a ++ b) ≡ select f a ++ select f b
 unfolding select
@@ -54,18 +54,21 @@ module _ (f : ℕ → Bool) where
       go true = refl
       go false = omega arith
 
-  pub before-le : (i : ℕ) → before f i ≤ i
-  before-le i = let a = select-length f (upto i) in let b = length-upto i in omega arith
-
   -- The item there is i, if f holds of it; otherwise it is another, or there is none.
-  pub item-is : (n i : ℕ) → i < n → f i ≡ true → (before f i < length (select f (upto n))) × (getD (select f (upto n)) (before f i) 0 ≡ i)
+  item-is : (n i : ℕ) → i < n → f i ≡ true → (before f i < length (select f (upto n))) × (getD (select f (upto n)) (before f i) 0 ≡ i)
   unfolding select
-  item-is n i h e = let s : select f (upto n) ≡ select f (upto i) ++ i ∷ select f (from (suc i) (n - suc i)) = split n i h ∙ ap (λ (t : Bool). select f (upto i) ++ cond t (i ∷ select f (from (suc i) (n - suc i))) (select f (from (suc i) (n - suc i)))) e in (
-    let a = ap length s in let b = length-append (select f (upto i)) (i ∷ select f (from (suc i) (n - suc i))) in omega arith,
-    ap (λ (l : List ℕ). getD l (before f i) 0) s ∙ ap (λ (z : ℕ). getD (select f (upto i) ++ i ∷ select f (from (suc i) (n - suc i))) z 0) (let z : before f i ≡ before f i + 0 = omega arith in z) ∙ getD-append-add (select f (upto i)) (i ∷ select f (from (suc i) (n - suc i))) 0 0,
+  item-is n i h e = (
+    let a = ap length s in let b = length-append (select f (upto i)) (i ∷ rest) in omega arith,
+    ap (λ (l : List ℕ). getD l (before f i) 0) s ∙ getD-append-seam (select f (upto i)) i rest 0,
   )
+    where
+      rest : List ℕ
+      rest = select f (from (suc i) (n - suc i))
 
-  pub item-not : (n i : ℕ) → i < n → f i ≡ false → before f i < length (select f (upto n)) → getD (select f (upto n)) (before f i) 0 ≢ i
+      s : select f (upto n) ≡ select f (upto i) ++ i ∷ rest
+      s = unfold select in split n i h ∙ ap (λ (t : Bool). select f (upto i) ++ cond t (i ∷ rest) rest) e
+
+  item-not : (n i : ℕ) → i < n → f i ≡ false → before f i < length (select f (upto n)) → getD (select f (upto n)) (before f i) 0 ≢ i
   item-not n i h e l q = clash (f i) (subst (λ (z : ℕ). f z ≡ true) q (select-true f (upto n) _ (has-at (select f (upto n)) (before f i) l))) e
 
   pub node-test : (n i : ℕ) → i < n → (ltb (before f i) (length (select f (upto n))) && eqb (getD (select f (upto n)) (before f i) 0) i) ≡ f i

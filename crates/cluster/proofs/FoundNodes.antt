@@ -7,8 +7,7 @@ use native.Mathlib.Omega.{arith}
 use lib.ListN.{length, take}
 use lib.Seq.{length-take-le}
 use lib.Ieee.{Float}
-use Rattle.float.proofs.Exact.{most}
-use Rattle.neighbors.specs.Places.{Place, stayCount, placesIn}
+use Rattle.neighbors.specs.Places.{Place, placesIn}
 use Rattle.neighbors.specs.Links.{Metric, weight, nodes}
 use Rattle.neighbors.specs.Tables.{Tabled, rowsWithWeight, Rising}
 use Rattle.neighbors.proofs.Sighted.{length-placesIn}

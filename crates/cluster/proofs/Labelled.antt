@@ -1,49 +1,34 @@
 -- (a) and (b) of demand 3 for places: when a place's label is -1, and chains between places of one label.
-use mathlib.Core.Path.{_≡_, refl, sym, ap, ap₂, _∙_, subst}
-use mathlib.Core.Logic.{_≢_, _↔_}
-use mathlib.Core.Bool.{Bool, true, false, not, cond, true≢false, false≢true}
-use mathlib.Core.List.{List, [], _∷_, map}
-use Prim.Native.Nat.{ℕ, zero, suc, _+_, _<_, _≤_, max}
-use native.Mathlib.Nat.{le-max-left, le-max-right, le-trans}
+use mathlib.Core.Path.{_≡_, refl, sym, ap, _∙_, subst}
+use mathlib.Core.Logic.{_↔_}
+use mathlib.Core.Bool.{Bool, true, false, cond}
+use mathlib.Core.List.{List}
+use Prim.Native.Nat.{ℕ, _+_, _<_, _≤_}
 use native.Mathlib.Omega.{arith}
 use borrow.Author.Tests.{eqb-true, eq-eqb}
 use lib.Dec.{eqb}
 use lib.IntN.{ℤ, pos, negsuc, pos-ne-negsuc}
-use lib.ListN.{length, getD, length-map}
+use lib.ListN.{length, getD}
 use lib.Ieee.{Float}
-use Rattle.lists.specs.Lists.{upto, Has, member, position}
+use Rattle.lists.specs.Lists.{Has, member, position}
 use Rattle.lists.proofs.Tests.{clash}
-use Rattle.lists.proofs.Upto.{length-upto, getD-upto}
 use Rattle.lists.proofs.Members.{member-has, has-member, position-lt, getD-position, position-injective}
 use Rattle.neighbors.specs.Places.{Place, stayCount}
-use Rattle.neighbors.specs.Links.{Metric, link, linked, nodes, singles}
-use Rattle.neighbors.specs.Chains.{Chain, alone, step}
+use Rattle.neighbors.specs.Links.{Metric, linked, nodes, singles}
+use Rattle.neighbors.specs.Chains.{Chain, alone}
 use Rattle.neighbors.proofs.Found.{Counted}
 use Rattle.neighbors.proofs.NodeList.{node-lt, node-linked, linked-node, unlinked-single}
 use Rattle.infomap.specs.Infomap.{keptGrouping, runInfomap, relabelDense}
-use Rattle.rest.specs.Ways.{Way, Joined}
+use Rattle.rest.specs.Ways.{Joined}
 use Rattle.rest.proofs.Joined.{kept-joined}
 use Rattle.cluster.specs.Cluster.{nodeNetwork, labelCount, placeLabel, cluster}
 use Rattle.cluster.proofs.NodeNetwork.{node-size, node-both, way-chain}
 use Rattle.cluster.proofs.Relabelled.{relabel-long, relabel-alike}
+use Rattle.cluster.proofs.LabelCount.{label-lt}
+use Rattle.cluster.proofs.Walk.{map-upto}
 
 abbrev pub minusOne : ℤ
 minusOne = negsuc 0
-
-map-upto : (f : ℕ → ℤ) (n i : ℕ) → i < n → getD (map f (upto n)) i minusOne ≡ f i
-map-upto f n i h = at (upto n) i (subst (λ (z : ℕ). i < z) (sym (length-upto n)) h) ∙ ap f (getD-upto n i h)
-  where
-    at : (l : List ℕ) (i : ℕ) → i < length l → getD (map f l) i minusOne ≡ f (getD l i 0)
-    at [] i q = absurd (omega arith)
-    at (x ∷ xs) zero q = refl
-    at (x ∷ xs) (suc i) q = at xs i (omega arith)
-
--- A label is below their number.
-label-lt : (ls : List ℕ) (u : ℕ) → u < length ls → getD ls u 0 < labelCount ls
-unfolding labelCount
-label-lt [] u h = absurd (omega arith)
-label-lt (l ∷ ls) zero h = let a = le-max-left (suc l) (labelCount ls) in omega arith
-label-lt (l ∷ ls) (suc u) h = let a = le-max-right (suc l) (labelCount ls) in let b = label-lt ls u (omega arith) in omega arith
 
 pos-injective : (a b : ℕ) → pos a ≡ pos b → a ≡ b
 pos-injective a b e = cc
@@ -64,7 +49,7 @@ module _ (dist : Metric) (r2 : Float) (single : Bool) (seed : ℕ) (ps : List Pl
 
   label-is : (i : ℕ) → i < length ps → labelOf i ≡ placeLabel single ns ss ls i
   unfolding cluster
-  label-is i h = map-upto (placeLabel single ns ss ls) (length ps) i h
+  label-is i h = map-upto (placeLabel single ns ss ls) minusOne (length ps) i h
 
   pub node-label : (i : ℕ) → Has ns i → labelOf i ≡ pos (getD ls (position i ns) 0)
   node-label i m = label-is i (node-lt dist r2 ps i m) ∙ go

@@ -10,10 +10,18 @@ use lib.Dec.{eqb, ltb}
 use lib.IntN.{ℤ, pos, negsuc}
 use lib.ListN.{length, getD, set, length-map}
 use lib.Seq.{ext-getD, getD-set-same, getD-set-other}
-use Rattle.lists.specs.Lists.{from, upto, member, position, select}
+use Rattle.lists.specs.Lists.{from, upto, position, select}
 use Rattle.lists.proofs.Upto.{length-upto, getD-upto}
 use Rattle.cluster.specs.Cluster.{labelCount, placeLabel}
-use Rattle.cluster.proofs.Before.{before, before-on, before-le, before-not, node-test, position-is, member-is}
+use Rattle.cluster.proofs.Before.{before, before-on, before-not, node-test, position-is, member-is}
+
+pub map-upto : (f : ℕ → ℤ) (d : ℤ) (n i : ℕ) → i < n → getD (map f (upto n)) i d ≡ f i
+map-upto f d n i h = at (upto n) i (subst (λ (z : ℕ). i < z) (sym (length-upto n)) h) ∙ ap f (getD-upto n i h)
+  where
+    at : (l : List ℕ) (i : ℕ) → i < length l → getD (map f l) i d ≡ f (getD l i 0)
+    at [] i q = absurd (omega arith)
+    at (x ∷ xs) zero q = refl
+    at (x ∷ xs) (suc i) q = at xs i (omega arith)
 
 pub next-le : (node : Bool) (u : ℕ) {u' : ℕ} → u' ≡ cond node (u + 1) u → u' ≤ u + 1
 next-le true u e = omega arith
@@ -68,10 +76,6 @@ module _ (f : ℕ → Bool) (single : Bool) (gs : List ℕ) (n : ℕ) where
 
   -- All places are labelled.
   pub walk-end : (labels : List ℤ) (u i : ℕ) → Walked labels u i → n ≤ i → length labels ≡ n → labels ≡ map (placeLabel single ns ss gs) (upto n)
-  walk-end labels u i w h e = ext-getD (pos 0) labels (map (placeLabel single ns ss gs) (upto n)) (e ∙ sym (length-map (upto n) (placeLabel single ns ss gs) ∙ length-upto n))
-      (λ k m. w .labelled k (omega arith) ∙ sym (map-at (upto n) k (let a = length-upto n in omega arith) ∙ ap (placeLabel single ns ss gs) (getD-upto n k (omega arith))))
-    where
-      map-at : (l : List ℕ) (k : ℕ) → k < length l → getD (map (placeLabel single ns ss gs) l) k (pos 0) ≡ placeLabel single ns ss gs (getD l k 0)
-      map-at [] k q = absurd (omega arith)
-      map-at (x ∷ xs) zero q = refl
-      map-at (x ∷ xs) (suc k) q = map-at xs k (omega arith)
+  walk-end labels u i w h e =
+      ext-getD (pos 0) labels (map (placeLabel single ns ss gs) (upto n)) (e ∙ sym (length-map (upto n) (placeLabel single ns ss gs) ∙ length-upto n))
+      (λ k m. w .labelled k (omega arith) ∙ sym (map-upto (placeLabel single ns ss gs) (pos 0) n k (omega arith)))

@@ -1,5 +1,4 @@
 -- What the code's slices and answer stand for. Definitions only.
-use mathlib.Core.Path.{_≡_}
 use Prim.Native.Nat.{ℕ, _<_, _≤_}
 use mathlib.Core.List.{List}
 use lib.IntN.{ℤ}

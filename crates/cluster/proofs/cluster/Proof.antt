@@ -1,5 +1,4 @@
 -- `cluster::cluster` meets its contract.
-use mathlib.Core.Path.{_≡_}
 use Prim.Native.Nat.{ℕ}
 use lib.ListN.{replicate}
 use Rattle.infomap.proofs.Trials.{part-of}

@@ -1,5 +1,5 @@
 -- `cluster::cluster_in` meets its contract.
-use mathlib.Core.Path.{_≡_, refl, sym, ap, _∙_}
+use mathlib.Core.Path.{_∙_}
 use native.Mathlib.Omega.{arith}
 use Rattle.cluster.proofs.FoundNodes.{places-long, found-nodes, found-few, found-rise, found-long}
 use borrow.Author.Needs.{needs}

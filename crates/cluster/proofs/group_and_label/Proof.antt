@@ -1,8 +1,6 @@
 -- `cluster::group_and_label` meets its contract.
-use mathlib.Core.Path.{_≡_, refl, sym, ap, _∙_}
+use mathlib.Core.Path.{sym, ap, _∙_}
 use native.Mathlib.Omega.{arith}
-use Prim.Native.Nat.{ℕ, _*_, _≤_}
-use lib.ListN.{length}
 use Rattle.map_state.specs.Network.{Network}
 use Rattle.infomap.specs.Infomap.{runInfomap}
 use Rattle.cluster.proofs.Clustered.{cells-few, cells-in, rows-front, labels-few, network-front, cluster-is}

@@ -1,5 +1,4 @@
 -- `cluster::labels::is_node` meets its contract.
-use mathlib.Core.Path.{_≡_, refl, sym, ap}
 use borrow.Author.Tests.{lt-ltb, le-ltb}
 use borrow.Author.Needs.{needs}
 use Rattle.cluster.proofs.labels.is_node.Statement.{statement}

@@ -1,7 +1,6 @@
 -- `cluster::labels::label_count` meets its contract. The loop has m for the labels before node u.
 use mathlib.Core.Path.{_≡_}
 use Prim.Native.Nat.{_-_, max}
-use native.Mathlib.Omega.{arith}
 use lib.ListN.{length, drop}
 use Rattle.cluster.specs.Cluster.{labelCount}
 use Rattle.cluster.proofs.LabelCount.{count-start, count-on, count-end}
