@@ -35,7 +35,7 @@ pub record Square (xs ys : List Float) (cs : List ℕ) (t : List Float) : Type 0
   pub cells : length t ≡ length xs * length xs
   pub few : length xs ≤ 512
 
--- Rows in rising order: none stands before its own place.
+-- Row numbers below n, each at least its own place in the list, as in a list that rises.
 pub record Rising (n : ℕ) (ns : List ℕ) : Type 0 where
   pub few : length ns ≤ n
   pub above : (u : ℕ) → u < length ns → u ≤ getD ns u 0
