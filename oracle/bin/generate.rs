@@ -223,17 +223,21 @@ fn put_huge_times(r: &mut Random, line: &mut Line, n: usize) {
     }
 }
 
+// The radius for a kind of coordinates: subnormal for 3, huge at times for 5, otherwise one of the usual ones.
+fn radius(r: &mut Random, kind: usize, usual: &[f64]) -> f64 {
+    match kind {
+        3 => f64::from_bits(r.between(1, 6) as u64),
+        5 => r.pick(&[1e155, 1.7e308, 5.0]),
+        _ => r.pick(usual),
+    }
+}
+
 fn stay(r: &mut Random) -> Cases {
     (0..800)
         .map(|i| {
             let mut line = Line::default();
             let kind = r.below(6);
-            let r1 = match kind {
-                3 => f64::from_bits(r.between(1, 6) as u64),
-                5 => r.pick(&[1e155, 1.7e308, 5.0]),
-                _ => r.pick(&[5.0, 10.0, 2.5, 1.0, 7.3]),
-            };
-            line.float(r1);
+            line.float(radius(r, kind, &[5.0, 10.0, 2.5, 1.0, 7.3]));
             line.put(if r.chance(12) { r.below(2) } else { r.between(2, 5) });
             line.float(r.pick(&[300.0, 100.0, 50.0, 1e-3, 1.7e308]));
             line.float(r.pick(&[86_400.0, 400.0, 100.0, 1.7e308]));
@@ -260,12 +264,7 @@ fn neighbors(r: &mut Random) -> Cases {
         .map(|i| {
             let mut line = Line::default();
             let kind = r.below(6);
-            let r2 = match kind {
-                3 => f64::from_bits(r.between(1, 6) as u64),
-                5 => r.pick(&[1e155, 1.7e308, 5.0]),
-                _ => r.pick(&[5.0, 1.0, 2.5, 3.7, 10.0]),
-            };
-            line.float(r2);
+            line.float(radius(r, kind, &[5.0, 1.0, 2.5, 3.7, 10.0]));
             let n = match i {
                 0..=2 => i,
                 _ if i % 60 == 0 => r.between(60, 80),
