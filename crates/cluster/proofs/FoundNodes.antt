@@ -7,6 +7,8 @@ use native.Mathlib.Omega.{arith}
 use lib.ListN.{length, take}
 use lib.Seq.{length-take-le}
 use lib.Ieee.{Float}
+use Rattle.lists.specs.Lists.{overlay}
+use Rattle.lists.proofs.Overlay.{take-front}
 use Rattle.neighbors.specs.Places.{Place, placesIn}
 use Rattle.neighbors.specs.Links.{Metric, weight, nodes}
 use Rattle.neighbors.specs.Tables.{Tabled, rowsWithWeight, Rising}
@@ -21,15 +23,15 @@ module _ (xs ys : List Float) (cs : List ℕ) (t : List Float) (p : PlaceTable x
   pub places-long : length ps ≡ length xs
   places-long = length-placesIn xs ys cs (p .square .ordinates) (p .square .counts)
 
-  -- s is the filled table; of the list l the first k are the rows with a weight.
-  module _ (dist : Metric) (r2 : Float) (s : List Float) (w : Tabled (weight dist r2 ps) (length xs) s (length xs * length xs)) (k : ℕ) (l : List ℕ)
-      (f : (k ≡ length (rowsWithWeight (length xs) s)) × (take k l ≡ rowsWithWeight (length xs) s)) where
+  -- s is the filled table; in l the k rows with a weight stand in front of what l₀ holds.
+  module _ (dist : Metric) (r2 : Float) (s : List Float) (w : Tabled (weight dist r2 ps) (length xs) s (length xs * length xs)) (k : ℕ) (l₀ l : List ℕ)
+      (f : (k ≡ length (rowsWithWeight (length xs) s)) × (l ≡ overlay (rowsWithWeight (length xs) s) l₀)) where
     rows-are : rowsWithWeight (length xs) s ≡ nodes dist r2 ps
     rows-are = subst (λ (n : ℕ). rowsWithWeight n s ≡ nodes dist r2 ps) places-long
         (rows-nodes dist r2 ps s (subst (λ (n : ℕ). Tabled (weight dist r2 ps) n s (n * n)) (sym places-long) w) (p .counted) (let a = p .stays in omega arith))
 
     pub found-nodes : take (k - 0) l ≡ nodes dist r2 ps
-    found-nodes = ap (λ (z : ℕ). take z l) (sub-zero k) ∙ f .1 ∙ rows-are
+    found-nodes = ap (λ (z : ℕ). take z l) (sub-zero k) ∙ take-front (rowsWithWeight (length xs) s) l₀ l k (f .0) (f .1) ∙ rows-are
 
     pub found-few : k ≤ length xs
     found-few = let a = nodes-few dist r2 ps in let b = ap length rows-are in let d = places-long in omega (arith, f .0)

@@ -2,3 +2,4 @@ pub mod Tests
 pub mod Upto
 pub mod Members
 pub mod Sums
+pub mod Overlay

@@ -1,10 +1,11 @@
--- Lists of numbers that several definitions share. Definitions only.
+-- Lists that several definitions share. Definitions only.
 use mathlib.Core.Logic.{_⊎_}
 use mathlib.Core.Path.{_≡_}
 use Prim.Native.Nat.{ℕ, zero, suc}
 use mathlib.Core.Bool.{Bool, false, _||_, cond}
-use mathlib.Core.List.{List, [], _∷_}
+use mathlib.Core.List.{List, [], _∷_, _++_}
 use lib.Dec.{eqb}
+use lib.ListN.{length, drop}
 
 -- i, i + 1, .., n numbers in all.
 unfoldable pub from : ℕ → ℕ → List ℕ
@@ -40,3 +41,7 @@ anyOf f (x ∷ xs) = f x || anyOf f xs
 unfoldable pub select : (ℕ → Bool) → List ℕ → List ℕ
 select f [] = []
 select f (x ∷ xs) = let r = select f xs in cond (f x) (x ∷ r) r
+
+-- l at the front of s, and what is behind stays.
+unfoldable pub overlay : {A : Type 0} → List A → List A → List A
+overlay l s = l ++ drop (length l) s

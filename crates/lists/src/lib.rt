@@ -1,1 +1,1 @@
-// Lists of numbers: the definitions that several crates share, and their laws. There is no code here.
+// Lists: the definitions that several crates share, and their laws. There is no code here.

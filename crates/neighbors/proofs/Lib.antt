@@ -1,6 +1,8 @@
 pub mod SameBits
 pub mod Search
 pub mod Sighted
+pub mod Within
+pub mod Distinct
 pub mod Found
 pub mod Cells
 pub mod Linked

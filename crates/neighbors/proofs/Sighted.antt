@@ -1,17 +1,13 @@
 -- One more stay: where the places stand after it, and that it is counted once.
-use mathlib.Core.Path.{_≡_, refl, sym, ap, _∙_, subst}
+use mathlib.Core.Path.{_≡_, refl, ap}
 use mathlib.Core.Bool.{Bool, true, false, cond}
 use mathlib.Core.List.{List, [], _∷_, _++_}
 use Prim.Native.Nat.{ℕ, zero, suc, _+_, _<_, _≤_}
-use native.Mathlib.Numerals.{add-one}
 use native.Mathlib.Omega.{arith}
-use borrow.Author.Tests.{lt-leb, le-leb}
-use lib.ListN.{length, getD, set, take, drop, drop-of-length-le}
-use lib.Seq.{drop-cons, take-set-lt, take-suc-set, length-take-le, getD-take}
-use lib.Ieee.{Float, nan}
+use lib.ListN.{length, getD, set}
+use lib.Ieee.{Float}
 use Rattle.distance.specs.declared.Point.{Point}
-use Rattle.neighbors.specs.Places.{Place, samePlace, placeOf, sighted, sightedAll, places, stayCount, points, placesIn, front, placeAt, distinctWithin}
-use Rattle.neighbors.specs.declared.places.PlaceCount.the-variants.{Places, TooMany}
+use Rattle.neighbors.specs.Places.{Place, samePlace, placeOf, sighted, sightedAll, stayCount, placesIn, placeAt}
 
 pub length-placesIn : (xs ys : List Float) (cs : List ℕ) → length ys ≡ length xs → length cs ≡ length xs → length (placesIn xs ys cs) ≡ length xs
 unfolding placesIn
@@ -22,7 +18,7 @@ length-placesIn (x ∷ xs) (y ∷ ys) (c ∷ cs) p q = ap suc (length-placesIn x
 
 -- ---- counted again
 
-sighted-old : (xs ys : List Float) (cs : List ℕ) (m : Point) → length ys ≡ length xs → length cs ≡ length xs → placeOf (placesIn xs ys cs) m < length xs
+pub sighted-old : (xs ys : List Float) (cs : List ℕ) (m : Point) → length ys ≡ length xs → length cs ≡ length xs → placeOf (placesIn xs ys cs) m < length xs
     → placesIn xs ys (set cs (placeOf (placesIn xs ys cs) m) (suc (getD cs (placeOf (placesIn xs ys cs) m) 0))) ≡ sighted (placesIn xs ys cs) m
 unfolding placesIn placeOf sighted
 sighted-old [] ys cs m p q h = absurd (omega arith)
@@ -44,7 +40,7 @@ sighted-old (x ∷ xs) (y ∷ ys) (c ∷ cs) m p q h = go (samePlace (record { x
 
 -- ---- a new place
 
-sighted-new : (xs ys : List Float) (cs : List ℕ) (m : Point) → length ys ≡ length xs → length cs ≡ length xs → length xs ≤ placeOf (placesIn xs ys cs) m
+pub sighted-new : (xs ys : List Float) (cs : List ℕ) (m : Point) → length ys ≡ length xs → length cs ≡ length xs → length xs ≤ placeOf (placesIn xs ys cs) m
     → placesIn (xs ++ (m .x ∷ [])) (ys ++ (m .y ∷ [])) (cs ++ (1 ∷ [])) ≡ sighted (placesIn xs ys cs) m
 unfolding placesIn placeOf sighted
 sighted-new [] [] [] m p q h = refl
@@ -131,99 +127,3 @@ count-in (x ∷ xs) [] cs i p q = absurd (omega arith)
 count-in (x ∷ xs) (y ∷ ys) [] i p q = absurd (omega arith)
 count-in (x ∷ xs) (y ∷ ys) (c ∷ cs) zero p q = refl
 count-in (x ∷ xs) (y ∷ ys) (c ∷ cs) (suc i) p q = count-in xs ys cs i (omega arith) (omega arith)
-
--- ---- the same at the front of longer slices
-module _ (xs ys : List Float) (cs : List ℕ) (n : ℕ) (m : Point) (p : length ys ≡ length xs) (q : length cs ≡ length xs) (h : n ≤ length xs) where
-  lx : length (take n xs) ≡ n
-  lx = length-take-le n xs h
-
-  ly : length (take n ys) ≡ n
-  ly = length-take-le n ys (omega arith)
-
-  lc : length (take n cs) ≡ n
-  lc = length-take-le n cs (omega arith)
-
-  pub length-front : length (front xs ys cs n) ≡ n
-  length-front = length-placesIn (take n xs) (take n ys) (take n cs) (ly ∙ sym lx) (lc ∙ sym lx) ∙ lx
-
-  pub count-front : (i : ℕ) → i < n → getD cs i 0 ≤ stayCount (front xs ys cs n)
-  count-front i k =
-      subst (λ (z : ℕ). z ≤ stayCount (front xs ys cs n)) (count-in (take n xs) (take n ys) (take n cs) i (ly ∙ sym lx) (lc ∙ sym lx) ∙ getD-take n cs i 0 k) (count-le (front xs ys cs n) i)
-
-  -- What `sight` ensures, by its three ways: i is the answer of the search.
-  module _ (i : ℕ) (found : (ds : List ℕ) → length ds ≡ length (take n xs) → i ≡ placeOf (placesIn (take n xs) (take n ys) ds) m) where
-    e : i ≡ placeOf (front xs ys cs n) m
-    e = found (take n cs) (lc ∙ sym lx)
-
-    abbrev After : ℕ → List Float → List Float → List ℕ → Type 0
-    After r xs' ys' cs' = (r ≡ length (sighted (front xs ys cs n) m)) × (r ≤ length xs → front xs' ys' cs' r ≡ sighted (front xs ys cs n) m)
-
-    old : i < n → front xs ys (set cs i (getD cs i 0 + 1)) n ≡ sighted (front xs ys cs n) m
-    old k =
-        rw (take-set-lt n cs i (getD cs i 0 + 1) k) (
-        subst (λ (z : ℕ). placesIn (take n xs) (take n ys) (set (take n cs) z (getD cs z 0 + 1)) ≡ sighted (front xs ys cs n) m) (sym e) (
-        let z = placeOf (front xs ys cs n) m in
-        let zn : z < n = omega (arith, e) in
-        let a : getD cs z 0 + 1 ≡ suc (getD (take n cs) z 0) = ap (λ (w : ℕ). w + 1) (sym (getD-take n cs z 0 zn)) ∙ (omega arith) in
-        ap (λ (w : ℕ). placesIn (take n xs) (take n ys) (set (take n cs) z w)) a ∙ sighted-old (take n xs) (take n ys) (take n cs) m (ly ∙ sym lx) (lc ∙ sym lx) (omega (arith, lx))))
-
-    pub sight-again : i < n → After n xs ys (set cs i (getD cs i 0 + 1))
-    sight-again k = (sym (length-old (front xs ys cs n) m (omega (arith, e, length-front)) ∙ length-front), λ l. old k)
-
-    more : n ≤ i → n + 1 ≡ length (sighted (front xs ys cs n) m)
-    more k = omega (arith, length-new (front xs ys cs n) m (omega (arith, e, length-front)), length-front)
-
-    pub sight-full : n ≤ i → length xs ≤ n → After (n + 1) xs ys cs
-    sight-full k l = (more k, λ f. absurd (omega arith))
-
-    new : n ≤ i → n < length xs → front (set xs n (m .x)) (set ys n (m .y)) (set cs n 1) (suc n) ≡ sighted (front xs ys cs n) m
-    new k l =
-        rw (take-suc-set xs n (m .x) l, take-suc-set ys n (m .y) (omega arith), take-suc-set cs n 1 (omega arith))
-        (sighted-new (take n xs) (take n ys) (take n cs) m (ly ∙ sym lx) (lc ∙ sym lx) (omega (arith, lx, e)))
-
-    pub sight-new : n ≤ i → n < length xs → After (n + 1) (set xs n (m .x)) (set ys n (m .y)) (set cs n 1)
-    sight-new k l = (more k, λ f. subst (λ (z : ℕ). front (set xs n (m .x)) (set ys n (m .y)) (set cs n 1) z ≡ sighted (front xs ys cs n) m) (sym (add-one n)) (new k l))
-
--- ---- the loop over the medians: n places of the first k medians stand in front
-pub record Reached (mx my xs ys : List Float) (cs : List ℕ) (n k : ℕ) : Type 0 where
-  pub rest : sightedAll (front xs ys cs n) (points (drop k mx) (drop k my)) ≡ places (points mx my)
-  pub few : n ≤ length xs
-  pub counted : stayCount (front xs ys cs n) ≡ k
-
-pub distinct-start : (mx my xs ys : List Float) (cs : List ℕ) → Reached mx my xs ys cs 0 0
-unfolding places placesIn stayCount
-distinct-start mx my xs ys cs = record { rest = refl; few = omega arith; counted = refl }
-
-module _ (mx my xs ys : List Float) (cs : List ℕ) (n k : ℕ) (at : Reached mx my xs ys cs n k) (h : k < length mx) (p : length my ≡ length mx) where
-  abbrev m : Point
-  m = record { x = getD mx k nan; y = getD my k nan }
-
-  abbrev next : List Place
-  next = sighted (front xs ys cs n) m
-
-  step : sightedAll next (points (drop (k + 1) mx) (drop (k + 1) my)) ≡ places (points mx my)
-  unfolding sightedAll points
-  step = rw (add-one k) ((rw (drop-cons mx k nan h, drop-cons my k nan (omega arith)) at (at .rest)))
-
-  pub distinct-on : (xs' ys' : List Float) (cs' : List ℕ) (r : ℕ) → length xs' ≡ length xs → (r ≡ length next) × (r ≤ length xs → front xs' ys' cs' r ≡ next) → r ≤ length xs → Reached mx my xs' ys' cs' r (k + 1)
-  distinct-on xs' ys' cs' r l e q = record {
-    rest = ap (λ (z : List Place). sightedAll z (points (drop (k + 1) mx) (drop (k + 1) my))) (e .1 q) ∙ step;
-    few = omega arith;
-    counted = ap stayCount (e .1 q) ∙ counted-one (front xs ys cs n) m ∙ ap suc (at .counted) ∙ sym (add-one k);
-  }
-
-  pub distinct-full : (cap : ℕ) (xs' ys' : List Float) (cs' : List ℕ) (r : ℕ) → r ≡ length next → cap < r
-      → (TooMany ≡ distinctWithin cap (places (points mx my))) × (length (places (points mx my)) ≤ cap → front xs' ys' cs' (length (places (points mx my))) ≡ places (points mx my))
-  unfolding distinctWithin
-  distinct-full cap xs' ys' cs' r e q =
-      let a = longer-all next (points (drop (k + 1) mx) (drop (k + 1) my)) in
-      let b : cap < length (places (points mx my)) = rw step at (let z : cap < length (sightedAll next (points (drop (k + 1) mx) (drop (k + 1) my))) = omega arith in z) in
-      (rw (lt-leb (length (places (points mx my))) cap b), λ l. absurd (omega arith))
-
-pub distinct-end : (mx my xs ys : List Float) (cs : List ℕ) (n k : ℕ) → Reached mx my xs ys cs n k → length ys ≡ length xs → length cs ≡ length xs → length mx ≤ k
-    → (cap : ℕ) → cap ≡ length xs → (Places n ≡ distinctWithin cap (places (points mx my))) × (length (places (points mx my)) ≤ cap → front xs ys cs (length (places (points mx my))) ≡ places (points mx my))
-unfolding sightedAll points distinctWithin
-distinct-end mx my xs ys cs n k at p q h cap e =
-    let a : front xs ys cs n ≡ places (points mx my) = rw (drop-of-length-le mx {i = k} h) at (at .rest) in
-    let l : n ≡ length (places (points mx my)) = sym (length-front xs ys cs n record { x = nan; y = nan } p q (at .few)) ∙ ap length a in
-    (rw (← l, le-leb n cap (omega (arith, at .few))), λ z. rw (← l) a)

@@ -1,7 +1,7 @@
 -- Distinct medians (document 01, "Distinct medians"). Definitions only.
 use Prim.Native.Nat.{ℕ, suc, _+_}
 use mathlib.Core.Bool.{Bool, _&&_, cond}
-use mathlib.Core.List.{List, [], _∷_}
+use mathlib.Core.List.{List, [], _∷_, map}
 use lib.Dec.{leb}
 use lib.ListN.{length, getD, take}
 use lib.Ieee.{Float}
@@ -31,6 +31,15 @@ sightedAll ps (m ∷ ms) = sightedAll (sighted ps m) ms
 -- The places of medians in order, numbered by first sight.
 unfoldable pub places : List Point → List Place
 places ms = sightedAll [] ms
+
+-- The places after the medians ms too, up to the first that would make them more than the cap.
+unfoldable pub sightedWithin : ℕ → List Place → List Point → List Place
+sightedWithin cap ps [] = ps
+sightedWithin cap ps (m ∷ ms) = let r = sightedWithin cap (sighted ps m) ms in cond (leb (length (sighted ps m)) cap) r ps
+
+-- The places of medians in order, up to the first that would be a place more than the cap.
+unfoldable pub placesWithin : ℕ → List Point → List Place
+placesWithin cap ms = sightedWithin cap [] ms
 
 -- The number of the place of m; how many places there are where m has none.
 unfoldable pub placeOf : List Place → Point → ℕ
@@ -63,6 +72,18 @@ placesIn [] ys cs = []
 placesIn (x ∷ xs) [] cs = []
 placesIn (x ∷ xs) (y ∷ ys) [] = []
 placesIn (x ∷ xs) (y ∷ ys) (c ∷ cs) = record { at = record { x = x; y = y }; count = c } ∷ placesIn xs ys cs
+
+-- The x of each place.
+unfoldable pub placeXs : List Place → List Float
+placeXs ps = map (λ (p : Place). p .at .x) ps
+
+-- The y of each place.
+unfoldable pub placeYs : List Place → List Float
+placeYs ps = map (λ (p : Place). p .at .y) ps
+
+-- The count of each place.
+unfoldable pub placeCounts : List Place → List ℕ
+placeCounts ps = map (λ (p : Place). p .count) ps
 
 -- The n places at the front of longer slices.
 abbrev pub front : List Float → List Float → List ℕ → ℕ → List Place

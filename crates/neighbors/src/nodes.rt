@@ -2,9 +2,10 @@
 ghost use mathlib.Core.Path.{_≡_};
 ghost use Prim.Native.Nat.{_+_, _*_, _<_, _≤_};
 ghost use mathlib.Core.Bool.{cond};
-ghost use lib.ListN.{length, set, take};
+ghost use lib.ListN.{length, set};
 ghost use mathlib.Core.List.{List};
 ghost use lib.Ieee.{Float};
+ghost use Rattle.lists.specs.Lists.{overlay};
 ghost use Rattle.neighbors.specs.Tables.{hasWeight, rowsWithWeight, Rising, Compacted};
 
 fn wide(x: u32) -> usize
@@ -40,10 +41,10 @@ fn put_if(it: bool, nodes: &mut [u32], k: usize, i: usize) -> usize
     k
 }
 
-// Writes the rows with a weight above 0, and tells how many there are.
+// Writes the rows with a weight above 0 to the front of the slice, and tells how many there are.
 pub fn find_nodes(table: &[f64], n: usize, nodes: &mut [u32]) -> usize
     requires { ⌜ (n ≤ 512) × (n * n ≤ length (now table)) × (n ≤ length (now nodes)) ⌝ }
-    ensures { λ r. ⌜ (r ≡ length (rowsWithWeight n (now (table .entry)))) × (take r (now (nodes .exit)) ≡ rowsWithWeight n (now (table .entry))) ⌝ }
+    ensures { λ r. ⌜ (r ≡ length (rowsWithWeight n (now (table .entry)))) × (now (nodes .exit) ≡ overlay (rowsWithWeight n (now (table .entry))) (now (nodes .entry))) ⌝ }
 {
     let mut k = 0;
     let mut i = 0;

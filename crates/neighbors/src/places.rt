@@ -1,9 +1,10 @@
 // Distinct medians: one place if both bit patterns agree, numbered by first sight.
 ghost use mathlib.Core.Path.{_≡_};
 ghost use Prim.Native.Nat.{ℕ, _+_, _<_, _≤_};
-ghost use mathlib.Core.List.{List};
+ghost use mathlib.Core.List.{List, [], _∷_};
 ghost use lib.ListN.{length};
-ghost use Rattle.neighbors.specs.Places.{samePlace, placeOf, sighted, places, stayCount, points, placesIn, front, distinctWithin};
+ghost use Rattle.lists.specs.Lists.{overlay};
+ghost use Rattle.neighbors.specs.Places.{samePlace, placeOf, sighted, sightedWithin, places, placesWithin, stayCount, points, placesIn, placeXs, placeYs, placeCounts, front, distinctWithin};
 ghost use Rattle.float.specs.Binary64.{sameBits};
 use distance::Point;
 
@@ -52,11 +53,11 @@ pub fn place_of(xs: &[f64], ys: &[f64], m: Point) -> usize
     i
 }
 
-// One more stay with the median m, where n places stand in front: how many there are then, which is one more than there is room for where m
-// is new and the slices are full.
+// One more stay with the median m, where n places stand in front: how many there are then. Where that is one more than there is room for,
+// nothing is written.
 fn sight(xs: &mut [f64], ys: &mut [f64], counts: &mut [u32], n: usize, m: Point) -> usize
     requires { ⌜ (length (now ys) ≡ length (now xs)) × (length (now counts) ≡ length (now xs)) × (n ≤ length (now xs)) × (stayCount (front (now xs) (now ys) (now counts) n) < 65536) ⌝ }
-    ensures { λ r. ⌜ (r ≡ length (sighted (front (now (xs .entry)) (now (ys .entry)) (now (counts .entry)) n) m)) × (r ≤ length (now (xs .entry)) → front (now (xs .exit)) (now (ys .exit)) (now (counts .exit)) r ≡ sighted (front (now (xs .entry)) (now (ys .entry)) (now (counts .entry)) n) m) ⌝ }
+    ensures { λ r. ⌜ (r ≡ length (sighted (front (now (xs .entry)) (now (ys .entry)) (now (counts .entry)) n) m)) × (now (xs .exit) ≡ overlay (placeXs (sightedWithin (length (now (xs .entry))) (front (now (xs .entry)) (now (ys .entry)) (now (counts .entry)) n) (m ∷ []))) (now (xs .entry))) × (now (ys .exit) ≡ overlay (placeYs (sightedWithin (length (now (xs .entry))) (front (now (xs .entry)) (now (ys .entry)) (now (counts .entry)) n) (m ∷ []))) (now (ys .entry))) × (now (counts .exit) ≡ overlay (placeCounts (sightedWithin (length (now (xs .entry))) (front (now (xs .entry)) (now (ys .entry)) (now (counts .entry)) n) (m ∷ []))) (now (counts .entry))) ⌝ }
 {
     let i = place_of(&xs[0..n], &ys[0..n], m);
     if i < n {
@@ -72,7 +73,8 @@ fn sight(xs: &mut [f64], ys: &mut [f64], counts: &mut [u32], n: usize, m: Point)
     n + 1
 }
 
-// Writes the places of the medians in order, with their counts, to the front of the slices; TooMany where there is no room for them.
+// Writes the places of the medians in order, with their counts, to the front of the slices; TooMany at the first median whose place has no
+// room, and then the slices hold the places of the medians before it.
 pub fn distinct(
     mx: &[f64],
     my: &[f64],
@@ -81,7 +83,7 @@ pub fn distinct(
     counts: &mut [u32],
 ) -> PlaceCount
     requires { ⌜ (length (now my) ≡ length (now mx)) × (length (now mx) ≤ 65536) × (length (now ys) ≡ length (now xs)) × (length (now counts) ≡ length (now xs)) ⌝ }
-    ensures { λ r. ⌜ (r ≡ distinctWithin (length (now (xs .entry))) (places (points (now (mx .entry)) (now (my .entry))))) × (length (places (points (now (mx .entry)) (now (my .entry)))) ≤ length (now (xs .entry)) → front (now (xs .exit)) (now (ys .exit)) (now (counts .exit)) (length (places (points (now (mx .entry)) (now (my .entry))))) ≡ places (points (now (mx .entry)) (now (my .entry)))) ⌝ }
+    ensures { λ r. ⌜ (r ≡ distinctWithin (length (now (xs .entry))) (places (points (now (mx .entry)) (now (my .entry))))) × (now (xs .exit) ≡ overlay (placeXs (placesWithin (length (now (xs .entry))) (points (now (mx .entry)) (now (my .entry))))) (now (xs .entry))) × (now (ys .exit) ≡ overlay (placeYs (placesWithin (length (now (xs .entry))) (points (now (mx .entry)) (now (my .entry))))) (now (ys .entry))) × (now (counts .exit) ≡ overlay (placeCounts (placesWithin (length (now (xs .entry))) (points (now (mx .entry)) (now (my .entry))))) (now (counts .entry))) ⌝ }
 {
     let mut n = 0;
     let mut k = 0;

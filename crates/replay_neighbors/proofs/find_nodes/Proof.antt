@@ -1,12 +1,13 @@
 -- `replay_neighbors::find_nodes` meets its contract: the rows with a weight rise. Assumes nothing.
 use mathlib.Core.Path.{_≡_}
 use mathlib.Core.List.{List}
-use Prim.Native.Nat.{ℕ, _≤_}
+use Prim.Native.Nat.{ℕ, _-_, _≤_}
+use native.Mathlib.Nat.{sub-zero}
 use native.Mathlib.Omega.{arith}
-use native.Mathlib.Numerals.{unary-clauses}
-use lib.ListN.{length}
+use lib.ListN.{length, take}
 use lib.Ieee.{Float}
-use Rattle.lists.specs.Lists.{upto, select}
+use Rattle.lists.specs.Lists.{upto, select, overlay}
+use Rattle.lists.proofs.Overlay.{take-front}
 use Rattle.lists.proofs.Upto.{length-upto, has-upto}
 use Rattle.lists.proofs.Members.{has-at, select-in, select-length, select-at-least}
 use Rattle.neighbors.specs.Tables.{hasWeight, rowsWithWeight, Rising}
@@ -18,9 +19,9 @@ few : (n : ℕ) (t : List Float) (k : ℕ) → k ≡ length (rowsWithWeight n t)
 unfolding rowsWithWeight
 few n t k e = omega (arith, select-length (hasWeight n t) (upto n), length-upto n)
 
-rise : (n : ℕ) (t : List Float) (ns ms : List ℕ) → ns ≡ rowsWithWeight n t → ms ≡ ns → Rising n ms
+rise : (n : ℕ) (t : List Float) (l₀ l : List ℕ) (k : ℕ) → (k ≡ length (rowsWithWeight n t)) × (l ≡ overlay (rowsWithWeight n t) l₀) → Rising n (take (k - 0) l)
 unfolding rowsWithWeight
-rise n t ns ms e f = rw (f, e) record {
+rise n t l₀ l k e = rw (sub-zero k, take-front (rowsWithWeight n t) l₀ l k (e .0) (e .1)) record {
   few = omega (arith, select-length (hasWeight n t) (upto n), length-upto n);
   above = select-at-least (hasWeight n t) n;
   below = λ u h. has-upto n _ (select-in (hasWeight n t) (upto n) _ (has-at (select (hasWeight n t) (upto n)) u h));
@@ -39,7 +40,7 @@ part-compact-end : tie.Need-part-compact-end
 part-compact-end c = let r = few _ _ _ (c .before .before .before .before .find-nodes .ensures .0) in omega arith
 
 compact-requires : tie.Need-compact-requires
-compact-requires c κs = (omega arith, omega arith, rise _ _ _ _ (c .before .before .before .before .before .find-nodes .ensures .1) (simp unary-clauses))
+compact-requires c κs = (omega arith, omega arith, rise _ _ _ _ _ (c .before .before .before .before .before .find-nodes .ensures))
 
 same-length : tie.Need-same-length
 same-length c = search needs

@@ -1,5 +1,5 @@
 -- `neighbors::nodes::find_nodes` meets its contract.
-use mathlib.Core.Path.{_≡_, refl, sym, _∙_}
+use mathlib.Core.Path.{_≡_, refl}
 use Prim.Native.Nat.{_-_, _≤_}
 use native.Mathlib.Omega.{arith}
 use lib.ListN.{length}
@@ -10,7 +10,7 @@ use Rattle.neighbors.proofs.nodes.find_nodes.Statement.{statement}
 use Rattle.neighbors.proofs.nodes.find_nodes.Tie as tie
 
 abbrev Inv-loop : tie.InvT-loop
-Inv-loop table n nodes₀ k₀ i₀ nodes k i = (Selected (hasWeight n table) n nodes k i) × (length nodes ≡ length nodes₀) × (i ≤ n)
+Inv-loop table n nodes₀ k₀ i₀ nodes k i = (Selected (hasWeight n table) n nodes₀ nodes k i) × (length nodes ≡ length nodes₀) × (i ≤ n)
 
 abbrev μ-loop : tie.MeasureT-loop
 μ-loop table n nodes₀ k₀ i₀ nodes k i = n - i
@@ -31,14 +31,14 @@ loop-less : tie.Need-loop-less Inv-loop μ-loop
 loop-less c = search needs
 
 loop-again : tie.Need-loop-again Inv-loop μ-loop
-loop-again c = (select-on _ _ _ _ _ (c .before .before .before .before .before .before .loop .inv .0) (c .before .before .before .before .before .loop-test .taken) (omega arith) (c .before .before .before .before .has-weight .ensures) (c .before .before .put-if .ensures), omega arith, omega arith)
+loop-again c = (select-on _ _ _ _ _ _ (c .before .before .before .before .before .before .loop .inv .0) (c .before .before .before .before .before .loop-test .taken) (omega arith) (c .before .before .before .before .has-weight .ensures) (c .before .before .put-if .ensures), omega arith, omega arith)
 
 same-length : tie.Need-same-length Inv-loop μ-loop
 same-length c = search needs
 
 returns : tie.Need-returns Inv-loop μ-loop
 unfolding rowsWithWeight
-returns c = select-end _ _ _ _ _ refl (c .before .loop .inv .0) (c .before .loop .inv .2) (c .loop-test .left) (omega arith)
+returns c = select-end _ _ _ _ _ _ refl (c .before .loop .inv .0) (c .loop-test .left)
 
 pub find-nodes-spec : {M : Type 1} → statement M
 find-nodes-spec =

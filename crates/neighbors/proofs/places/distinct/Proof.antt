@@ -1,15 +1,15 @@
 -- `neighbors::places::distinct` meets its contract.
-use mathlib.Core.Path.{_≡_, refl, sym, ap, _∙_}
+use mathlib.Core.Path.{_≡_, refl}
 use Prim.Native.Nat.{_-_, _≤_}
 use native.Mathlib.Omega.{arith}
 use lib.ListN.{length}
-use Rattle.neighbors.proofs.Sighted.{Reached, distinct-start, distinct-on, distinct-full, distinct-end}
+use Rattle.neighbors.proofs.Distinct.{Reached, distinct-start, distinct-on, distinct-full, distinct-end}
 use borrow.Author.Needs.{needs}
 use Rattle.neighbors.proofs.places.distinct.Statement.{statement}
 use Rattle.neighbors.proofs.places.distinct.Tie as tie
 
 abbrev Inv-loop : tie.InvT-loop
-Inv-loop mx my xs₀ ys₀ counts₀ n₀ k₀ xs ys counts n k = (Reached mx my xs ys counts n k) × (k ≤ length mx) × (length xs ≡ length xs₀) × (length ys ≡ length ys₀) × (length counts ≡ length counts₀)
+Inv-loop mx my xs₀ ys₀ counts₀ n₀ k₀ xs ys counts n k = (Reached mx my xs₀ ys₀ counts₀ xs ys counts n k) × (k ≤ length mx) × (length xs ≡ length xs₀) × (length ys ≡ length ys₀) × (length counts ≡ length counts₀)
 
 abbrev μ-loop : tie.MeasureT-loop
 μ-loop mx my xs₀ ys₀ counts₀ n₀ k₀ xs ys counts n k = length mx - k
@@ -30,7 +30,7 @@ shared-slice-read-t15 : tie.Need-shared-slice-read-t15 Inv-loop μ-loop
 shared-slice-read-t15 c = search needs
 
 sight-requires : tie.Need-sight-requires Inv-loop μ-loop
-sight-requires c κs = (omega arith, omega arith, c .before .before .before .before .before .before .loop .inv .0 .few, omega (arith, c .before .before .before .before .before .before .loop .inv .0 .counted))
+sight-requires c κs = (omega arith, omega arith, omega (arith, c .before .before .before .before .before .before .loop .inv .0 .few), omega (arith, c .before .before .before .before .before .before .loop .inv .0 .counted))
 
 same-length : tie.Need-same-length Inv-loop μ-loop
 same-length c = search needs
@@ -42,7 +42,7 @@ same-length-3 : tie.Need-same-length-3 Inv-loop μ-loop
 same-length-3 c = search needs
 
 returns : tie.Need-returns Inv-loop μ-loop
-returns c = distinct-full _ _ (c .before .before .before .before .before .before .before .before .before .before .before .before .before .before .loop .xs) (c .before .before .before .before .before .before .before .before .before .before .before .before .before .before .loop .ys) (c .before .before .before .before .before .before .before .before .before .before .before .before .before .before .loop .counts) _ _ (c .before .before .before .before .before .before .before .before .before .before .before .before .before .before .loop .inv .0) (c .before .before .before .before .before .before .before .before .before .before .before .before .before .loop-test .taken) (c .before .before .before .before .before .before .before .before .before .before .before .before .before .before .before .before .before .before .before .before .pre .0) _ _ _ _ _ (c .before .before .before .before .before .before .before .sight .ensures .0) (omega arith)
+returns c = distinct-full _ _ _ _ _ (c .before .before .before .before .before .before .before .before .before .before .before .before .before .before .loop .xs) (c .before .before .before .before .before .before .before .before .before .before .before .before .before .before .loop .ys) (c .before .before .before .before .before .before .before .before .before .before .before .before .before .before .loop .counts) _ _ (c .before .before .before .before .before .before .before .before .before .before .before .before .before .before .loop .inv .0) (c .before .before .before .before .before .before .before .before .before .before .before .before .before .loop-test .taken) (c .before .before .before .before .before .before .before .before .before .before .before .before .before .before .before .before .before .before .before .before .pre .0) (c .before .before .before .before .before .before .before .before .before .before .before .before .before .before .loop .inv .2) _ _ _ _ (c .before .before .before .before .before .before .before .sight .ensures) (omega arith)
 
 add-k : tie.Need-add-k Inv-loop μ-loop
 add-k c = search needs
@@ -51,7 +51,7 @@ loop-less : tie.Need-loop-less Inv-loop μ-loop
 loop-less c = search needs
 
 loop-again : tie.Need-loop-again Inv-loop μ-loop
-loop-again c = (distinct-on _ _ (c .before .before .before .before .before .before .before .before .before .before .before .before .before .before .loop .xs) (c .before .before .before .before .before .before .before .before .before .before .before .before .before .before .loop .ys) (c .before .before .before .before .before .before .before .before .before .before .before .before .before .before .loop .counts) _ _ (c .before .before .before .before .before .before .before .before .before .before .before .before .before .before .loop .inv .0) (c .before .before .before .before .before .before .before .before .before .before .before .before .before .loop-test .taken) (c .before .before .before .before .before .before .before .before .before .before .before .before .before .before .before .before .before .before .before .before .pre .0) _ _ _ _ (omega arith) (c .before .before .before .before .before .before .before .sight .ensures) (omega arith), omega arith, omega arith, omega arith, omega arith)
+loop-again c = (distinct-on _ _ _ _ _ (c .before .before .before .before .before .before .before .before .before .before .before .before .before .before .loop .xs) (c .before .before .before .before .before .before .before .before .before .before .before .before .before .before .loop .ys) (c .before .before .before .before .before .before .before .before .before .before .before .before .before .before .loop .counts) _ _ (c .before .before .before .before .before .before .before .before .before .before .before .before .before .before .loop .inv .0) (c .before .before .before .before .before .before .before .before .before .before .before .before .before .loop-test .taken) (c .before .before .before .before .before .before .before .before .before .before .before .before .before .before .before .before .before .before .before .before .pre .0) (c .before .before .before .before .before .before .before .before .before .before .before .before .before .before .loop .inv .2) _ _ _ _ (c .before .before .before .before .before .before .before .sight .ensures) (omega arith), omega arith, omega arith, omega arith, omega arith)
 
 same-length-4 : tie.Need-same-length-4 Inv-loop μ-loop
 same-length-4 c = search needs
@@ -63,7 +63,7 @@ same-length-6 : tie.Need-same-length-6 Inv-loop μ-loop
 same-length-6 c = search needs
 
 returns-2 : tie.Need-returns-2 Inv-loop μ-loop
-returns-2 c = distinct-end _ _ _ _ _ _ _ (c .before .loop .inv .0) (omega arith) (omega arith) (c .loop-test .left) _ (omega arith)
+returns-2 c = distinct-end _ _ _ _ _ _ _ _ _ _ (c .before .loop .inv .0) (omega arith) (omega arith) (c .before .loop .inv .2) (c .loop-test .left)
 
 pub distinct-spec : {M : Type 1} → statement M
 distinct-spec =

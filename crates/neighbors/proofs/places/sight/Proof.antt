@@ -1,7 +1,7 @@
 -- `neighbors::places::sight` meets its contract.
 use native.Mathlib.Nat.{sub-zero}
 use native.Mathlib.Omega.{arith}
-use Rattle.neighbors.proofs.Sighted.{count-front, sight-again, sight-full, sight-new}
+use Rattle.neighbors.proofs.Distinct.{count-front, sight-again, sight-full, sight-new}
 use borrow.Author.Needs.{needs}
 use Rattle.neighbors.proofs.places.sight.Statement.{statement}
 use Rattle.neighbors.proofs.places.sight.Tie as tie
@@ -34,7 +34,7 @@ slice-read-counts : tie.Need-slice-read-counts
 slice-read-counts c = search needs
 
 add-counts : tie.Need-add-counts
-add-counts c = record { fits = omega (arith, count-front (c .before .before .before .before .before .before .before .before .before .before .args .xs .now) (c .before .before .before .before .before .before .before .before .before .before .args .ys .now) (c .before .before .before .before .before .before .before .before .before .before .args .counts .now) (c .before .before .before .before .before .before .before .before .before .before .args .n) (c .before .before .before .before .before .before .before .before .before .before .args .m) (c .before .before .before .before .before .before .before .before .before .before .pre .0) (c .before .before .before .before .before .before .before .before .before .before .pre .1) (c .before .before .before .before .before .before .before .before .before .before .pre .2) (c .before .before .place-of .result) (c .before .if1 .taken)) }
+add-counts c = record { fits = omega (arith, count-front (c .before .before .before .before .before .before .before .before .before .before .args .xs .now) (c .before .before .before .before .before .before .before .before .before .before .args .ys .now) (c .before .before .before .before .before .before .before .before .before .before .args .counts .now) (c .before .before .before .before .before .before .before .before .before .before .args .n) (c .before .before .before .before .before .before .before .before .before .before .pre .0) (c .before .before .before .before .before .before .before .before .before .before .pre .1) (c .before .before .before .before .before .before .before .before .before .before .pre .2) (c .before .before .place-of .result) (c .before .if1 .taken)) }
 
 slice-write-counts : tie.Need-slice-write-counts
 slice-write-counts c = search needs
