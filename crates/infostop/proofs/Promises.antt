@@ -1,0 +1,156 @@
+-- The fit by its checks, and what its end means for the caller: demand 3.
+use mathlib.Core.Path.{_≡_, refl, sym, ap, _∙_, subst}
+use mathlib.Core.Bool.{Bool, true, false}
+use mathlib.Core.List.{List, [], _∷_}
+use Prim.Native.Nat.{ℕ, _≤_}
+use native.Mathlib.Omega.{arith}
+use lib.Dec.{ltb}
+use lib.IntN.{ℤ, negsuc}
+use lib.ListN.{length, take, replicate, length-map}
+use lib.Ieee.{Float}
+use Rattle.lists.specs.Lists.{upto}
+use Rattle.lists.proofs.Tests.{clash}
+use Rattle.lists.proofs.Upto.{length-upto}
+use Rattle.lists.proofs.Overlay.{take-front}
+use Rattle.distance.specs.declared.Point.{Point}
+use Rattle.distance.specs.Distance.{euclidean}
+use Rattle.stay.specs.Trace.{Fix, fixes}
+use Rattle.neighbors.specs.Places.{Place, places}
+use Rattle.neighbors.specs.Links.{Metric}
+use Rattle.infomap.specs.declared.Mark.{Mark}
+use Rattle.infomap.specs.Infomap.{RunMark, markOf}
+use Rattle.cluster.specs.Cluster.{cluster, noneLabelled}
+use Rattle.tracks.specs.declared.config.Config.{Config}
+use Rattle.tracks.specs.declared.refusal.Refusal.{Refusal}
+use Rattle.tracks.specs.declared.refusal.Checked.{Checked}
+use Rattle.tracks.specs.declared.refusal.Checked.the-variants as checked
+use Rattle.tracks.specs.Settings.{checkConfig}
+use Rattle.tracks.specs.Tracks.{traces, checkTracks}
+use Rattle.events.specs.FixLabels.{allMedians}
+use Rattle.fit.specs.Demand.{Given, Demand3}
+use Rattle.fit.specs.Fit.{staySettings, Fitted, Outcome, refused, fitted, unlessNone, givenBy, fromPlaces, fromMedians, fitTraces, unlessRefused, fit, givenOf}
+use Rattle.fit.proofs.Accepted.{traces-done, accepted, fit-demand3}
+use Rattle.infostop.specs.declared.model.Infostop.{Infostop}
+use Rattle.infostop.specs.declared.answer.Answer.{Answer}
+use Rattle.infostop.specs.declared.answer.Answer.the-variants.{Labelled, Refused}
+use Rattle.infostop.specs.declared.answer.Fit.{Fit}
+use Rattle.infostop.specs.Models.{modelAfter}
+use Rattle.infostop.specs.Ends.{kept, toldBy, Ended, keepsWork, WorkEnds, givenTo, Kept3}
+use Rattle.infostop.proofs.Ending.{no-kept, refused-ends}
+
+-- ---- the fit by its checks
+module _ (c : Config) (xs ys times : List Float) (marks lens : List ℕ) (labels cap floats words : ℕ) where
+  abbrev outcome : Outcome
+  outcome = fit c xs ys times marks lens labels cap floats words
+
+  pub config-refused : (e : Refusal) → checkConfig c ≡ checked.Refused e → outcome ≡ refused e
+  unfolding fit unlessRefused
+  config-refused e q = rw q refl
+
+  pub tracks-refused : (e : Refusal) → checkConfig c ≡ checked.Accepted → checkTracks xs ys times marks lens labels cap floats words ≡ checked.Refused e → outcome ≡ refused e
+  unfolding fit unlessRefused
+  tracks-refused e p q = rw (p, q) refl
+
+  pub both-accepted : checkConfig c ≡ checked.Accepted → checkTracks xs ys times marks lens labels cap floats words ≡ checked.Accepted → outcome ≡ fitTraces euclidean c cap (traces lens (fixes xs ys times marks))
+  unfolding fit unlessRefused
+  both-accepted p q = rw (p, q) refl
+
+-- ---- the work slices are free once the checks have passed
+module _ (dist : Metric) (c : Config) (cap : ℕ) (ts : List (List Fix)) where
+  free-last : (b : Bool) (f : Fitted) → keepsWork (unlessNone b f) ≡ false
+  unfolding unlessNone
+  free-last true f = refl
+  free-last false f = refl
+
+  free-places : (ps : List Place) (b : Bool) → keepsWork (fromPlaces dist c cap ts ps b) ≡ false
+  unfolding fromPlaces
+  free-places ps true = refl
+  free-places ps false = let k = cluster dist (c .r2) (c .«label_singleton») (c .seed) ps in free-last (noneLabelled (k .labels)) (givenBy dist c cap ts ps k)
+
+  free-medians : (ms : List Point) → keepsWork (fromMedians dist c cap ts ms) ≡ false
+  unfolding fromMedians
+  free-medians [] = refl
+  free-medians (m ∷ ms) = free-places (places (m ∷ ms)) (ltb cap (length (places (m ∷ ms))))
+
+  pub free-work : keepsWork (fitTraces dist c cap ts) ≡ false
+  unfolding fitTraces
+  free-work = free-medians (allMedians dist (staySettings c) ts)
+
+pub work-ends : (o : Outcome) (floats floats' : List Float) (words words' : List ℤ) → keepsWork o ≡ false → WorkEnds o floats words floats' words'
+work-ends o floats floats' words words' e h = absurd (clash (keepsWork o) h e)
+
+-- ---- demand 3
+
+kept-mark : (m m' : RunMark) (r r' : ℕ) → kept m r ≡ kept m' r' → m ≡ m'
+kept-mark m m' r r' e = cc
+
+-- Each place has a label.
+labels-each : (dist : Metric) (r2 : Float) (single : Bool) (seed : ℕ) (ps : List Place) → length (cluster dist r2 single seed ps .labels) ≡ length ps
+unfolding cluster
+labels-each dist r2 single seed ps = length-map (upto (length ps)) _ ∙ length-upto (length ps)
+
+module _ (dist : Metric) (c : Config) (cap : ℕ) (ts : List (List Fix)) (f : Fitted) (e : fitTraces dist c cap ts ≡ fitted f) where
+  pub places-are : f .places ≡ places (allMedians dist (staySettings c) ts)
+  unfolding givenBy
+  places-are = ap (λ (z : Fitted). z .places) (traces-done dist c cap ts f e .is)
+
+  pub placed-labels : length (f .placeLabels) ≡ length (f .places)
+  unfolding givenBy
+  placed-labels =
+      let d = traces-done dist c cap ts f e in
+      ap (λ (z : Fitted). length (z .placeLabels)) (d .is) ∙ labels-each dist (c .r2) (c .«label_singleton») (c .seed) (places (allMedians dist (staySettings c) ts)) ∙ ap length (sym places-are)
+
+module _ (m : Infostop) (xs ys times : List Float) (marks lens : List ℕ) (old : List ℤ) (cap floats words : ℕ) (r : Fit) (labels : List ℤ) where
+  abbrev c : Config
+  c = m .config
+
+  abbrev ts : List (List Fix)
+  ts = traces lens (fixes xs ys times marks)
+
+  abbrev o : Outcome
+  o = fit c xs ys times marks lens (length old) cap floats words
+
+  abbrev givenFrom : List ℤ → List Place → List ℤ → RunMark → Given
+  givenFrom ls ps pl k = givenOf euclidean c ts (record { labels = ls; places = ps; placeLabels = pl; mark = k; rounds = 0 })
+
+  -- What the caller holds after an accepted fit has demand 3.
+  pub ended-demand3 : Ended m old o r labels → Kept3 c ts r labels
+  ended-demand3 x k rounds a = go o refl x
+    where
+      go : (u : Outcome) → o ≡ u → Ended m old u r labels → Demand3 (givenTo c ts labels (r .model) k)
+      go (refused e) q y = no-kept (markOf k) rounds e (ap toldBy (sym a) ∙ y .answer)
+      go (fitted f) q y =
+          let t = accepted c xs ys times marks lens (length old) cap floats words f q .fits in
+          let d : Demand3 (givenFrom (f .labels) (f .places) (f .placeLabels) (f .mark)) = fit-demand3 c xs ys times marks lens (length old) cap floats words f q in
+          let marks-are : f .mark ≡ markOf k = sym (kept-mark (markOf k) (f .mark) rounds (f .rounds) (ap toldBy (sym a) ∙ y .answer)) in
+          let held : f .placeLabels ≡ take (r .model .count) (r .model .labels) =
+          sym (ap (λ (z : Infostop). take (z .count) (z .labels)) (y .model) ∙ take-front (f .placeLabels) (replicate 512 (negsuc 0)) _ (length (f .places)) (sym (placed-labels euclidean c cap ts f t)) refl) in
+          subst (λ (z : List ℤ). Demand3 (givenFrom z (places (allMedians euclidean (staySettings c) ts)) (take (r .model .count) (r .model .labels)) (markOf k))) (sym (y .fixes))
+          (subst (λ (z : List Place). Demand3 (givenFrom (f .labels) z (take (r .model .count) (r .model .labels)) (markOf k))) (places-are euclidean c cap ts f t)
+          (subst (λ (z : List ℤ). Demand3 (givenFrom (f .labels) (f .places) z (markOf k))) held
+          (subst (λ (z : RunMark). Demand3 (givenFrom (f .labels) (f .places) (f .placeLabels) z)) marks-are d)))
+
+-- ---- what `fit_predict_many` ensures
+module _ (m : Infostop) (xs ys times : List Float) (marks lens : List ℕ) (old : List ℤ) (cap : ℕ) (floats : List Float) (words : List ℤ) where
+  abbrev whole : Outcome
+  whole = fit (m .config) xs ys times marks lens (length old) cap (length floats) (length words)
+
+  abbrev tracks : List (List Fix)
+  tracks = traces lens (fixes xs ys times marks)
+
+  abbrev Promised : Fit → List ℤ → List Float → List ℤ → Type 0
+  Promised r labels floats' words' = Ended m old whole r labels × WorkEnds whole floats words floats' words' × Kept3 (m .config) tracks r labels
+
+  promised : (r : Fit) (labels : List ℤ) (floats' : List Float) (words' : List ℤ) → Ended m old whole r labels → WorkEnds whole floats words floats' words' → Promised r labels floats' words'
+  promised r labels floats' words' x w = (x, w, ended-demand3 m xs ys times marks lens old cap (length floats) (length words) r labels x)
+
+  -- A refusal by the checks.
+  pub promised-refused : (e : Refusal) → whole ≡ refused e → Promised (record { answer = Refused e; model = m }) old floats words
+  promised-refused e q = promised _ _ _ _ (refused-ends m old whole e q) (λ z. (refl, refl))
+
+  -- What comes after them.
+  pub promised-fit : (r : Fit) (labels : List ℤ) (floats' : List Float) (words' : List ℤ) → checkConfig (m .config) ≡ checked.Accepted → checkTracks xs ys times marks lens (length old) cap (length floats) (length words) ≡ checked.Accepted
+      → Ended m old (fitTraces euclidean (m .config) cap tracks) r labels → Promised r labels floats' words'
+  promised-fit r labels floats' words' p q x =
+      let b = both-accepted (m .config) xs ys times marks lens (length old) cap (length floats) (length words) p q in
+      promised r labels floats' words' (subst (λ (z : Outcome). Ended m old z r labels) (sym b) x) (work-ends whole floats floats' words words' (ap keepsWork b ∙ free-work euclidean (m .config) cap tracks))

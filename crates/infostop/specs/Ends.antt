@@ -1,0 +1,79 @@
+-- How a fit ends for its caller: what is told, the model, the labels and the work slices, by the outcome that crate `fit` defines; and demand 3
+-- of what the caller then holds. Definitions only.
+use mathlib.Core.Path.{_≡_}
+use Prim.Native.Nat.{ℕ}
+use mathlib.Core.Bool.{Bool, true, false}
+use mathlib.Core.List.{List}
+use lib.Dec.{ltb}
+use lib.IntN.{ℤ}
+use lib.ListN.{take}
+use lib.Ieee.{Float}
+use Rattle.distance.specs.Distance.{euclidean}
+use Rattle.stay.specs.Trace.{Fix}
+use Rattle.neighbors.specs.Places.{places}
+use Rattle.infomap.specs.declared.Mark.{Mark}
+use Rattle.infomap.specs.Infomap.{RunMark, markOf}
+use Rattle.tracks.specs.declared.config.Config.{Config}
+use Rattle.tracks.specs.declared.refusal.Refusal.{Refusal}
+use Rattle.tracks.specs.Refusals.{numberOf}
+use Rattle.events.specs.FixLabels.{allMedians}
+use Rattle.fit.specs.Demand.{Given, Demand3}
+use Rattle.fit.specs.Fit.{staySettings, Outcome, refused, fitted}
+use Rattle.infostop.specs.declared.model.Infostop.{Infostop}
+use Rattle.infostop.specs.declared.answer.Answer.{Answer}
+use Rattle.infostop.specs.declared.answer.Answer.the-variants.{Labelled, Refused}
+use Rattle.infostop.specs.declared.answer.Fit.{Fit}
+use Rattle.infostop.specs.Models.{modelAfter}
+
+-- What is told of a fit: the refusal (its number and trace are `numberOf` and `traceOf` of crate `tracks`), or the mark and the rounds of the kept trial.
+pub data Told : Type 0 where
+  no : Refusal → Told
+  kept : RunMark → ℕ → Told
+
+abbrev pub told : Outcome → Told
+told (refused e) = no e
+told (fitted f) = kept (f .mark) (f .rounds)
+
+-- The same of each case of the code's answer.
+abbrev pub toldBy : Answer → Told
+toldBy (Labelled m r) = kept (markOf m) r
+toldBy (Refused e) = no e
+
+-- A refusal leaves the labels as they were.
+abbrev pub labelsAfter : List ℤ → Outcome → List ℤ
+labelsAfter old (refused e) = old
+labelsAfter old (fitted f) = f .labels
+
+-- A fit with the model m and the labels `old` ends as the outcome o says.
+pub record Ended (m : Infostop) (old : List ℤ) (o : Outcome) (r : Fit) (labels : List ℤ) : Type 0 where
+  pub answer : toldBy (r .answer) ≡ told o
+  pub model : r .model ≡ modelAfter m o
+  pub fixes : labels ≡ labelsAfter old o
+
+-- The work slices are free after success, 18 and 19; the other refusals, all of lower number, leave them as they were.
+abbrev pub keepsWork : Outcome → Bool
+keepsWork (refused e) = ltb (numberOf e) 18
+keepsWork (fitted f) = false
+
+abbrev pub WorkEnds : Outcome → List Float → List ℤ → List Float → List ℤ → Type 0
+WorkEnds o floats words floats' words' = keepsWork o ≡ true → (floats' ≡ floats) × (words' ≡ words)
+
+-- What demand 3 speaks of, for a fit with settings c over the traces ts that was answered with the mark m: the caller's labels, and the places with
+-- their labels in the model.
+abbrev pub givenTo : Config → List (List Fix) → List ℤ → Infostop → Mark → Given
+givenTo c ts labels model m = record {
+  dist = euclidean;
+  stay = staySettings c;
+  r2 = c .r2;
+  single = c .«label_singleton»;
+  seed = c .seed;
+  traces = ts;
+  labels = labels;
+  places = places (allMedians euclidean (staySettings c) ts);
+  placeLabels = take (model .count) (model .labels);
+  mark = markOf m;
+}
+
+-- Demand 3 of every accepted fit.
+abbrev pub Kept3 : Config → List (List Fix) → Fit → List ℤ → Type 0
+Kept3 c ts r labels = (m : Mark) (rounds : ℕ) → r .answer ≡ Labelled m rounds → Demand3 (givenTo c ts labels (r .model) m)

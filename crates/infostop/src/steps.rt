@@ -1,0 +1,210 @@
+// The steps of a fit whose tracks have passed the checks: stays, places, labels of places, labels of fixes.
+use crate::answer::Answer;
+use crate::answer::Fit;
+use crate::model::Infostop;
+use neighbors::places::PlaceCount;
+use stay::StaySettings;
+use tracks::config::Config;
+use tracks::refusal::Refusal;
+ghost use mathlib.Core.Path.{_≡_};
+ghost use mathlib.Core.List.{List};
+ghost use Prim.Native.Nat.{ℕ, _+_, _*_, _≤_};
+ghost use lib.ListN.{length, take};
+ghost use Rattle.distance.specs.Distance.{euclidean};
+ghost use Rattle.stay.specs.Trace.{Fix, fixes};
+ghost use Rattle.neighbors.specs.Places.{points, placesIn};
+ghost use Rattle.tracks.specs.declared.refusal.Checked.the-variants.{Accepted};
+ghost use Rattle.tracks.specs.Tracks.{traces, checkTracks};
+ghost use Rattle.events.specs.Events.{stayLabels, eventLabels};
+ghost use Rattle.events.specs.Found.{AllFound};
+ghost use Rattle.fit.specs.Fit.{staySettings, fitTraces};
+ghost use Rattle.infostop.specs.Ends.{Ended};
+ghost use Rattle.infostop.specs.Steps.{PlaceSlices, Space, Grouped, chosen, placesOutcome};
+
+// The labels of the fixes, from their stay numbers in front of `words`; behind them stand the labels of the stays.
+fn label_fixes(
+    mx: &[f64],
+    my: &[f64],
+    px: &[f64],
+    py: &[f64],
+    place_labels: &[i32],
+    words: &mut [i32],
+    labels: &mut [i32],
+)
+    requires { ⌜ (length (now my) ≡ length (now mx)) × (length (now py) ≡ length (now px)) × (length (now labels) + length (now mx) ≤ length (now words)) ⌝ }
+    ensures { λ _. ⌜ ((cs : List ℕ) → length cs ≡ length (now (px .entry)) → now (labels .exit) ≡ eventLabels (stayLabels (placesIn (now (px .entry)) (now (py .entry)) cs) (now («place_labels» .entry)) (points (now (mx .entry)) (now (my .entry)))) (take (length (now (labels .entry))) (now (words .entry)))) ⌝ }
+{
+    let n = labels.len();
+    let end = n + mx.len();
+    events::stay_labels(mx, my, px, py, place_labels, &mut words[n..end]);
+    events::fix_labels(&words[0..n], &words[n..end], labels);
+}
+
+// The labels of the places by their groups, then of the fixes; 18 where all labels are -1. The medians of the k stays stand in the third and the
+// fourth n of `floats`, for n fixes.
+fn label_tracks(
+    c: Config,
+    k: usize,
+    px: &[f64],
+    py: &[f64],
+    counts: &[u32],
+    place_labels: &mut [i32],
+    floats: &mut [f64],
+    words: &mut [i32],
+    labels: &mut [i32],
+) -> Answer
+    requires { ⌜ (PlaceSlices (now px) (now py) (now counts) (length (now «place_labels»))) × (Space (length (now labels)) k (length (now px)) (length (now floats)) (length (now words))) ⌝ }
+    ensures { λ r. ⌜ Grouped c k (now (px .entry)) (now (py .entry)) (now (counts .entry)) (now (floats .entry)) (now (words .entry)) (now (labels .entry)) r (now («place_labels» .exit)) (now (labels .exit)) ⌝ }
+{
+    let n = labels.len();
+    let cells = 4 * n;
+    let end = cells + px.len() * px.len();
+    let kept = cluster::cluster(
+        px,
+        py,
+        counts,
+        c.r2,
+        c.label_singleton,
+        c.seed,
+        &mut floats[cells..end],
+        place_labels,
+    );
+    if cluster::labels::none_labelled(place_labels) {
+        return Answer::Refused(Refusal::NoStop);
+    }
+    let x = 2 * n;
+    let x_end = x + k;
+    let y = 3 * n;
+    let y_end = y + k;
+    label_fixes(
+        &floats[x..x_end],
+        &floats[y..y_end],
+        px,
+        py,
+        place_labels,
+        words,
+        labels,
+    );
+    let mark = kept.mark;
+    let rounds = kept.rounds;
+    Answer::Labelled(mark, rounds)
+}
+
+// The answer with the next model; where it is a refusal, with the old one.
+fn with_model(a: Answer, next: Infostop, old: Infostop) -> Fit
+    ensures { λ r. ⌜ r ≡ chosen a next old ⌝ }
+{
+    match a {
+        Answer::Labelled(mark, rounds) => Fit {
+            answer: Answer::Labelled(mark, rounds),
+            model: next,
+        },
+        Answer::Refused(e) => Fit {
+            answer: Answer::Refused(e),
+            model: old,
+        },
+    }
+}
+
+// From the medians and the stay numbers of k stays in the work slices: the places, 19, and the labels.
+fn from_medians(
+    model: Infostop,
+    k: usize,
+    places: usize,
+    floats: &mut [f64],
+    words: &mut [i32],
+    labels: &mut [i32],
+) -> Fit
+    requires { ⌜ (places ≤ 512) × (Space (length (now labels)) k places (length (now floats)) (length (now words))) ⌝ }
+    ensures { λ r. ⌜ ((ts : List (List Fix)) → AllFound (staySettings (model .config)) ts (length (now (labels .entry))) (take (4 * length (now (labels .entry))) (now (floats .entry))) (take (length (now (labels .entry))) (now (words .entry))) k → Ended model (now (labels .entry)) (placesOutcome (model .config) places ts) r (now (labels .exit))) ⌝ }
+{
+    let n = labels.len();
+    let x = 2 * n;
+    let x_end = x + k;
+    let y = 3 * n;
+    let y_end = y + k;
+    let mut px = [0.0; 512];
+    let mut py = [0.0; 512];
+    let mut counts = [0u32; 512];
+    let found = neighbors::places::distinct(
+        &floats[x..x_end],
+        &floats[y..y_end],
+        &mut px[0..places],
+        &mut py[0..places],
+        &mut counts[0..places],
+    );
+    match found {
+        PlaceCount::TooMany => Fit {
+            answer: Answer::Refused(Refusal::TooManyPlaces),
+            model: model,
+        },
+        PlaceCount::Places(p) => {
+            let config = model.config;
+            let mut place_labels = [-1i32; 512];
+            let a = label_tracks(
+                config,
+                k,
+                &px[0..p],
+                &py[0..p],
+                &counts[0..p],
+                &mut place_labels[0..p],
+                floats,
+                words,
+                labels,
+            );
+            let next = Infostop {
+                config: config,
+                xs: px,
+                ys: py,
+                labels: place_labels,
+                count: p,
+                fitted: true,
+            };
+            with_model(a, next, model)
+        }
+    }
+}
+
+// The fit of tracks that have passed the checks.
+pub fn from_tracks(
+    model: Infostop,
+    xs: &[f64],
+    ys: &[f64],
+    times: &[f64],
+    marks: &[u8],
+    lens: &[u32],
+    labels: &mut [i32],
+    places: usize,
+    floats: &mut [f64],
+    words: &mut [i32],
+) -> Fit
+    requires { ⌜ checkTracks (now xs) (now ys) (now times) (now marks) (now lens) (length (now labels)) places (length (now floats)) (length (now words)) ≡ Accepted ⌝ }
+    ensures { λ r. ⌜ Ended model (now (labels .entry)) (fitTraces euclidean (model .config) places (traces (now (lens .entry)) (fixes (now (xs .entry)) (now (ys .entry)) (now (times .entry)) (now (marks .entry))))) r (now (labels .exit)) ⌝ }
+{
+    let n = labels.len();
+    let c = model.config;
+    let s = StaySettings {
+        r1: c.r1,
+        min_size: c.min_size,
+        min_staying_time: c.min_staying_time,
+        max_time_between: c.max_time_between,
+    };
+    let end = 4 * n;
+    let k = events::all_stays(
+        xs,
+        ys,
+        times,
+        marks,
+        lens,
+        s,
+        &mut floats[0..end],
+        &mut words[0..n],
+    );
+    if k == 0 {
+        return Fit {
+            answer: Answer::Refused(Refusal::NoStop),
+            model: model,
+        };
+    }
+    from_medians(model, k, places, floats, words, labels)
+}
