@@ -21,6 +21,8 @@ use Rattle.neighbors.proofs.NodeList.{node-lt, node-linked, linked-node, unlink
 use Rattle.infomap.specs.Infomap.{keptGrouping, runInfomap, relabelDense}
 use Rattle.rest.specs.Ways.{Joined}
 use Rattle.rest.proofs.Joined.{kept-joined}
+-- Named so that the example is checked before these lemmas.
+use Rattle.cluster.specs.Examples
 use Rattle.cluster.specs.Cluster.{nodeNetwork, labelCount, placeLabel, cluster}
 use Rattle.cluster.proofs.NodeNetwork.{node-size, node-both, way-chain}
 use Rattle.cluster.proofs.Relabelled.{relabel-long, relabel-alike}

@@ -1,2 +1,3 @@
 pub mod Cluster
 pub mod Slices
+pub mod Examples

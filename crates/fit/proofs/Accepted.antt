@@ -27,6 +27,8 @@ use Rattle.tracks.proofs.Turns.{turn-first, turn-rest}
 use Rattle.tracks.proofs.Lengths.{Agreed, lengths-agree, Counted, counts-few}
 use Rattle.tracks.proofs.Unread.{SameMarked, same-fixes, same-check}
 use Rattle.events.specs.FixLabels.{fixCount, allMedians}
+-- Named so that the facts are checked before these lemmas.
+use Rattle.fit.specs.Facts
 use Rattle.fit.specs.Demand.{Demand3}
 use Rattle.fit.specs.Fit.{staySettings, Fitted, Outcome, refused, fitted, unlessNone, givenBy, fromPlaces, fromMedians, fitTraces, unlessRefused, fit, givenOf}
 use Rattle.events.proofs.Medians.{fix-labels-length}

@@ -9,6 +9,8 @@ use Rattle.map_state.specs.Network.{Network}
 use Rattle.scan.specs.Scan.{scan, isolate}
 use Rattle.rng.specs.Rng.{shuffle}
 use Rattle.lists.specs.Lists.{upto}
+-- Named so that the examples are checked before these lemmas.
+use Rattle.optimize.specs.Examples
 use Rattle.optimize.specs.Rounds.{Pass, Run, pass, round, runRounds, AtMost}
 use Rattle.rng.proofs.Visits.{order-length}
 use Rattle.optimize.proofs.Numbers.{move-pass-at-most, isolation-pass-at-most}
