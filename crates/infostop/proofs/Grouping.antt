@@ -1,6 +1,6 @@
 -- From the clustering of the places to the outcome.
-use mathlib.Core.Path.{_≡_, refl, sym, ap, ap₂, _∙_}
-use mathlib.Core.Bool.{Bool, true, false}
+use mathlib.Core.Path.{_≡_, sym, ap, ap₂, _∙_, subst}
+use mathlib.Core.Bool.{Bool, true, false, cond}
 use mathlib.Core.List.{List, []}
 use Prim.Native.Nat.{ℕ, _+_, _*_, _-_, _≤_}
 use native.Mathlib.Nat.{add-sub-cancel-left}
@@ -18,6 +18,7 @@ use Rattle.events.specs.Events.{stayLabels, eventLabels}
 use Rattle.tracks.specs.declared.config.Config.{Config}
 use Rattle.tracks.specs.declared.refusal.Refusal.the-variants.{NoStop}
 use Rattle.fit.specs.Fit.{Fitted, Outcome, refused, fitted, unlessNone}
+use Rattle.infostop.specs.declared.answer.Answer.{Answer}
 use Rattle.infostop.specs.declared.answer.Answer.the-variants.{Labelled, Refused}
 use Rattle.infostop.specs.Ends.{told, toldBy, labelsAfter}
 use Rattle.infostop.specs.Steps.{PlaceSlices, Space, mediansIn, fittedBy, fromClustering, clusteringIn, outcomeIn, Grouped}
@@ -59,12 +60,12 @@ module _ (c : Config) (k : ℕ) (xs ys : List Float) (cs : List ℕ) (floats : L
   labels-are : pl ≡ kc .labels
   labels-are = ap (λ (z : Clustering). z .labels) e
 
-  pub grouped-none : noneLabelled pl ≡ true → Grouped c k xs ys cs floats words old (Refused NoStop) pl old
+  grouped-none : noneLabelled pl ≡ true → Grouped c k xs ys cs floats words old (Refused NoStop) pl old
   grouped-none h =
       let o = none-outcome (placesIn xs ys cs) (mediansIn (length old) k floats) (take (length old) words) kc (ap noneLabelled (sym labels-are) ∙ h) in
       record { of-places = labels-are; answer = ap told (sym o); of-fixes = ap (labelsAfter old) (sym o) }
 
-  pub grouped-some : noneLabelled pl ≡ false → (end : ℕ) (t : List Float) (labels : List ℤ) → k ≤ length old → 4 * length old ≤ length floats
+  grouped-some : noneLabelled pl ≡ false → (end : ℕ) (t : List Float) (labels : List ℤ) → k ≤ length old → 4 * length old ≤ length floats
       → labels ≡ eventLabels (stayLabels (placesIn xs ys cs) pl (points (lent (2 * length old) (2 * length old + k) (back (4 * length old) end t floats)) (lent (3 * length old) (3 * length old + k) (back (4 * length old) end t floats)))) (take (length old) words)
       → Grouped c k xs ys cs floats words old (Labelled (kept .mark) (kept .rounds)) pl labels
   grouped-some h end t labels few room l =
@@ -74,3 +75,10 @@ module _ (c : Config) (k : ℕ) (xs ys : List Float) (cs : List ℕ) (floats : L
         answer = ap (λ (z : Clustering). told (fitted (fittedBy [] [] [] z))) e ∙ ap told (sym o);
         of-fixes = l ∙ ap₂ (λ (a : List ℤ) (b : List Point). eventLabels (stayLabels (placesIn xs ys cs) a b) (take (length old) words)) labels-are (medians-kept (length old) k end t floats few room) ∙ ap (labelsAfter old) (sym o);
       }
+
+  -- Labels are written where some place has one.
+  pub grouped : (b : Bool) → b ≡ noneLabelled pl → (a : Answer) → a ≡ cond b (Refused NoStop) (Labelled (kept .mark) (kept .rounds)) → (end : ℕ) (t : List Float) (labels : List ℤ) → k ≤ length old → 4 * length old ≤ length floats
+      → labels ≡ cond b old (eventLabels (stayLabels (placesIn xs ys cs) pl (points (lent (2 * length old) (2 * length old + k) (back (4 * length old) end t floats)) (lent (3 * length old) (3 * length old + k) (back (4 * length old) end t floats)))) (take (length old) words))
+      → Grouped c k xs ys cs floats words old a pl labels
+  grouped true h a p end t labels few room l = subst (λ (z : Answer). Grouped c k xs ys cs floats words old z pl labels) (sym p) (subst (λ (z : List ℤ). Grouped c k xs ys cs floats words old (Refused NoStop) pl z) (sym l) (grouped-none (sym h)))
+  grouped false h a p end t labels few room l = subst (λ (z : Answer). Grouped c k xs ys cs floats words old z pl labels) (sym p) (grouped-some (sym h) end t labels few room l)

@@ -2,27 +2,32 @@
 use crate::answer::Answer;
 use crate::answer::Fit;
 use crate::model::Infostop;
+use infomap::Kept;
 use neighbors::places::PlaceCount;
 use stay::StaySettings;
 use tracks::config::Config;
 use tracks::refusal::Refusal;
 ghost use mathlib.Core.Path.{_≡_};
+ghost use mathlib.Core.Bool.{cond};
 ghost use mathlib.Core.List.{List};
 ghost use Prim.Native.Nat.{ℕ, _+_, _*_, _≤_};
 ghost use lib.ListN.{length, take};
 ghost use Rattle.distance.specs.Distance.{euclidean};
 ghost use Rattle.stay.specs.Trace.{Fix, fixes};
 ghost use Rattle.neighbors.specs.Places.{points, placesIn};
+ghost use Rattle.tracks.specs.declared.refusal.Refusal.the-variants.{NoStop};
 ghost use Rattle.tracks.specs.declared.refusal.Checked.the-variants.{Accepted};
 ghost use Rattle.tracks.specs.Tracks.{traces, checkTracks};
 ghost use Rattle.events.specs.Events.{stayLabels, eventLabels};
 ghost use Rattle.events.specs.Found.{AllFound};
 ghost use Rattle.fit.specs.Fit.{staySettings, fitTraces};
+ghost use Rattle.infostop.specs.declared.answer.Answer.the-variants.{Labelled, Refused};
 ghost use Rattle.infostop.specs.Ends.{Ended};
 ghost use Rattle.infostop.specs.Steps.{PlaceSlices, Space, Grouped, chosen, placesOutcome};
 
-// The labels of the fixes, from their stay numbers in front of `words`; behind them stand the labels of the stays.
+// Unless `none`, the labels of the fixes, from their stay numbers in front of `words`; behind them stand the labels of the stays.
 fn label_fixes(
+    none: bool,
     mx: &[f64],
     my: &[f64],
     px: &[f64],
@@ -32,12 +37,27 @@ fn label_fixes(
     labels: &mut [i32],
 )
     requires { ⌜ (length (now my) ≡ length (now mx)) × (length (now py) ≡ length (now px)) × (length (now labels) + length (now mx) ≤ length (now words)) ⌝ }
-    ensures { λ _. ⌜ ((cs : List ℕ) → length cs ≡ length (now (px .entry)) → now (labels .exit) ≡ eventLabels (stayLabels (placesIn (now (px .entry)) (now (py .entry)) cs) (now («place_labels» .entry)) (points (now (mx .entry)) (now (my .entry)))) (take (length (now (labels .entry))) (now (words .entry)))) ⌝ }
+    ensures { λ _. ⌜ ((cs : List ℕ) → length cs ≡ length (now (px .entry)) → now (labels .exit) ≡ cond none (now (labels .entry)) (eventLabels (stayLabels (placesIn (now (px .entry)) (now (py .entry)) cs) (now («place_labels» .entry)) (points (now (mx .entry)) (now (my .entry)))) (take (length (now (labels .entry))) (now (words .entry))))) ⌝ }
 {
+    if none {
+        return;
+    }
     let n = labels.len();
     let end = n + mx.len();
     events::stay_labels(mx, my, px, py, place_labels, &mut words[n..end]);
     events::fix_labels(&words[0..n], &words[n..end], labels);
+}
+
+// 18 where no place has a label, else what was kept.
+fn answer_of(none: bool, kept: Kept) -> Answer
+    ensures { λ r. ⌜ r ≡ cond none (Refused NoStop) (Labelled (kept .mark) (kept .rounds)) ⌝ }
+{
+    if none {
+        return Answer::Refused(Refusal::NoStop);
+    }
+    let mark = kept.mark;
+    let rounds = kept.rounds;
+    Answer::Labelled(mark, rounds)
 }
 
 // The labels of the places by their groups, then of the fixes; 18 where all labels are -1. The medians of the k stays stand in the third and the
@@ -69,14 +89,13 @@ fn label_tracks(
         &mut floats[cells..end],
         place_labels,
     );
-    if cluster::labels::none_labelled(place_labels) {
-        return Answer::Refused(Refusal::NoStop);
-    }
+    let none = cluster::labels::none_labelled(place_labels);
     let x = 2 * n;
     let x_end = x + k;
     let y = 3 * n;
     let y_end = y + k;
     label_fixes(
+        none,
         &floats[x..x_end],
         &floats[y..y_end],
         px,
@@ -85,9 +104,7 @@ fn label_tracks(
         words,
         labels,
     );
-    let mark = kept.mark;
-    let rounds = kept.rounds;
-    Answer::Labelled(mark, rounds)
+    answer_of(none, kept)
 }
 
 // The answer with the next model; where it is a refusal, with the old one.

@@ -1,5 +1,6 @@
 -- `infostop::steps::label_fixes` meets its contract.
-use mathlib.Core.Path.{_≡_, sym, ap₂, _∙_}
+use mathlib.Core.Path.{_≡_, sym, ap, ap₂, _∙_}
+use mathlib.Core.Bool.{Bool, cond}
 use mathlib.Core.List.{List}
 use Prim.Native.Nat.{ℕ, _+_, _-_, _≤_}
 use native.Mathlib.Nat.{add-sub-cancel-left}
@@ -11,6 +12,9 @@ use Rattle.infostop.proofs.Slices.{lent, back, lent-length, back-part, 
 use borrow.Author.Needs.{needs}
 use Rattle.infostop.proofs.steps.label_fixes.Statement.{statement}
 use Rattle.infostop.proofs.steps.label_fixes.Tie as tie
+
+returns : tie.Need-returns
+returns c cs e = rw (c .if1 .taken)
 
 add-end : tie.Need-add-end
 add-end c = search needs
@@ -65,19 +69,20 @@ joined : (n m : ℕ) (p words labels stays : List ℤ) → n ≤ length words �
 joined n m p words labels stays h l e q =
     e ∙ ap₂ eventLabels (back-part n (n + m) p words h (l ∙ sym (add-sub-cancel-left n m)) ∙ q) (back-before 0 n n (n + m) p words (omega arith) (omega arith) h ∙ lent-first n words)
 
-returns : tie.Need-returns
-returns c cs e =
-    let a = c .before .before .before .before .before .before .before .before .before .before .before .before .before .args in
+returns-2 : tie.Need-returns-2
+returns-2 c cs e =
+    let a = c .before .before .before .before .before .before .before .before .before .before .before .before .before .before .args in
     let s = c .before .before .before .before .before .before .before .stay-labels in
     let n = length (a .labels .now) in
     let m = length (a .mx .now) in
     let h : n + m ≤ length (a .words .now) = omega arith in
-    joined n m (s .last .1 .1 .1 .1 .1 .0) (a .words .now) _ _ (omega arith) (s .kept .1 .1 .1 .1 .1 .0 ∙ lent-length n (n + m) (a .words .now) (omega arith) h ∙ add-sub-cancel-left n m) (c .before .fix-labels .ensures) (s .ensures cs e)
+    rw (c .before .before .before .before .before .before .before .before .before .if1 .left) (joined n m (s .last .1 .1 .1 .1 .1 .0) (a .words .now) _ _ (omega arith) (s .kept .1 .1 .1 .1 .1 .0 ∙ lent-length n (n + m) (a .words .now) (omega arith) h ∙ add-sub-cancel-left n m) (c .before .fix-labels .ensures) (s .ensures cs e))
 
 pub label-fixes-spec : {M : Type 1} → statement M
 label-fixes-spec =
     tie.close
     (tie.spec
+    returns
     add-end
     mul-stay-labels
     sub-stay-labels
@@ -94,4 +99,4 @@ label-fixes-spec =
     fix-labels-requires
     same-length
     same-length-2
-    returns)
+    returns-2)

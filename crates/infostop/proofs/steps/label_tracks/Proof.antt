@@ -1,9 +1,8 @@
 -- `infostop::steps::label_tracks` meets its contract.
-use mathlib.Core.Path.{sym, _∙_}
 use Prim.Native.Nat.{_+_, _*_}
 use native.Mathlib.Omega.{arith}
 use lib.ListN.{length}
-use Rattle.infostop.proofs.Grouping.{table-there, grouped-none, grouped-some}
+use Rattle.infostop.proofs.Grouping.{table-there, grouped}
 use borrow.Author.Needs.{needs}
 use Rattle.infostop.proofs.steps.label_tracks.Statement.{statement}
 use Rattle.infostop.proofs.steps.label_tracks.Tie as tie
@@ -36,15 +35,6 @@ cluster-requires c κs =
 
 none-labelled-requires : tie.Need-none-labelled-requires
 none-labelled-requires c κs = search needs
-
-same-length : tie.Need-same-length
-same-length c = search needs
-
-same-length-2 : tie.Need-same-length-2
-same-length-2 c = search needs
-
-returns : tie.Need-returns
-returns c = grouped-none _ _ _ _ _ _ _ _ _ (c .before .before .before .before .before .before .cluster .result) (c .before .before .before .before .before .before .cluster .ensures) (sym (c .before .none-labelled .ensures) ∙ c .if1 .taken)
 
 mul-x : tie.Need-mul-x
 mul-x c = search needs
@@ -85,23 +75,28 @@ part-label-fixes-end-2 c = search needs
 label-fixes-requires : tie.Need-label-fixes-requires
 label-fixes-requires c κs = search needs
 
+answer-of-requires : tie.Need-answer-of-requires
+answer-of-requires c κs = search needs
+
+same-length : tie.Need-same-length
+same-length c = search needs
+
+same-length-2 : tie.Need-same-length-2
+same-length-2 c = search needs
+
 same-length-3 : tie.Need-same-length-3
 same-length-3 c = search needs
 
 same-length-4 : tie.Need-same-length-4
 same-length-4 c = search needs
 
-same-length-5 : tie.Need-same-length-5
-same-length-5 c = search needs
-
-same-length-6 : tie.Need-same-length-6
-same-length-6 c = search needs
-
-returns-2 : tie.Need-returns-2
-returns-2 c =
+returns : tie.Need-returns
+returns c =
     let a = c .before .before .before .before .before .before .before .before .before .before .before .before .before .before .before .before .before .before .before .before .before .before .args in
     let p = c .before .before .before .before .before .before .before .before .before .before .before .before .before .before .before .before .before .before .before .before .before .before .pre in
-    grouped-some _ _ _ _ _ _ _ _ _ (c .before .before .before .before .before .before .before .before .before .before .before .before .before .before .before .cluster .result) (c .before .before .before .before .before .before .before .before .before .before .before .before .before .before .before .cluster .ensures) (sym (c .before .before .before .before .before .before .before .before .before .before .none-labelled .ensures) ∙ c .before .before .before .before .before .before .before .before .before .if1 .left) (4 * length (a .labels .now) + length (a .px .now) * length (a .px .now)) (c .before .before .before .before .before .before .before .before .before .before .before .before .before .before .before .cluster .last .1 .1 .1 .1 .1 .1 .0) _ (p .1 .few-stays) (omega (arith, p .1 .floats-length)) (c .before .before .label-fixes .ensures (a .counts .now) (p .0 .counts))
+    let k = c .before .before .before .before .before .before .before .before .before .before .before .before .before .before .before .cluster in
+    grouped _ _ _ _ _ _ _ _ _ (k .result) (k .ensures) _ (c .before .before .before .before .before .before .before .before .before .before .none-labelled .ensures) _ (c .answer-of .ensures) (4 * length (a .labels .now) + length (a .px .now) * length (a .px .now)) (k .last .1 .1 .1 .1 .1 .1 .0) _ (p .1 .few-stays)
+    (omega (arith, p .1 .floats-length)) (c .before .before .before .label-fixes .ensures (a .counts .now) (p .0 .counts))
 
 pub label-tracks-spec : {M : Type 1} → statement M
 label-tracks-spec =
@@ -116,9 +111,6 @@ label-tracks-spec =
     part-cluster-end
     cluster-requires
     none-labelled-requires
-    same-length
-    same-length-2
-    returns
     mul-x
     add-x-end
     mul-y
@@ -132,8 +124,9 @@ label-tracks-spec =
     part-label-fixes-start-2
     part-label-fixes-end-2
     label-fixes-requires
+    answer-of-requires
+    same-length
+    same-length-2
     same-length-3
     same-length-4
-    same-length-5
-    same-length-6
-    returns-2)
+    returns)
