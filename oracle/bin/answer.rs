@@ -155,15 +155,12 @@ fn refusal(e: &Error) -> (u32, usize) {
     (*number, trace)
 }
 
-fn fitted(
-    config: Config,
-    traces: &[Vec<TimedPoint>],
+/// The labels of the fixes, the places with their labels, and the kept trial's mark and rounds.
+fn put_fit(
+    labels: Vec<Vec<i32>>,
+    model: &Infostop,
     out: &mut Line,
 ) -> Result<(), Error> {
-    let mut model = Infostop::from_config(config)?;
-    record::clear();
-    let labels = model.fit_predict_many(traces)?;
-    out.put(0).put(0);
     for l in labels.into_iter().flatten() {
         out.put(l);
     }
@@ -173,18 +170,24 @@ fn fitted(
     for (p, l) in places.iter().zip(place_labels) {
         out.float(p.x).float(p.y).put(l);
     }
+    let r = record::kept();
+    out.put(r.mark).put(r.rounds);
+    Ok(())
+}
+
+/// The median of each label's places, in rising label.
+fn put_reports(model: &Infostop, out: &mut Line) -> Result<(), Error> {
     let mut medians: Vec<_> = model.label_medians()?.into_iter().collect();
     medians.sort_by_key(|m| m.0);
     out.put(medians.len());
     for (_, m) in medians {
         out.float(m.x).float(m.y);
     }
-    let r = record::kept();
-    out.put(r.mark).put(r.rounds);
     Ok(())
 }
 
-fn fit(n: &mut Numbers, out: &mut Line) {
+/// The settings and tracks of a fit.
+fn fit_case(n: &mut Numbers) -> (Config, Vec<Vec<TimedPoint>>) {
     let r1 = n.float();
     let r2 = n.float();
     let label_singleton = n.up_to(1) == 1;
@@ -205,14 +208,39 @@ fn fit(n: &mut Numbers, out: &mut Line) {
     };
     let count = n.up_to(256);
     let lens: Vec<usize> = (0..count).map(|_| n.up_to(MOST)).collect();
-    let traces: Vec<Vec<TimedPoint>> = lens
+    let traces = lens
         .iter()
         .map(|&len| (0..len).map(|_| fix(n)).collect())
         .collect();
-    if let Err(e) = fitted(config, &traces, out) {
+    (config, traces)
+}
+
+/// Fits, and puts 0 0 and what is asked of the labels and the model, or the refusal.
+fn fitted(
+    n: &mut Numbers,
+    out: &mut Line,
+    put: fn(Vec<Vec<i32>>, &Infostop, &mut Line) -> Result<(), Error>,
+) {
+    let (config, traces) = fit_case(n);
+    let run = || {
+        let mut model = Infostop::from_config(config)?;
+        record::clear();
+        let labels = model.fit_predict_many(&traces)?;
+        out.put(0).put(0);
+        put(labels, &model, out)
+    };
+    if let Err(e) = run() {
         let (number, trace) = refusal(&e);
         out.put(number).put(trace);
     }
+}
+
+fn fit(n: &mut Numbers, out: &mut Line) {
+    fitted(n, out, put_fit);
+}
+
+fn reports(n: &mut Numbers, out: &mut Line) {
+    fitted(n, out, |_, model, out| put_reports(model, out));
 }
 
 fn main() {
@@ -225,7 +253,10 @@ fn main() {
             Some("neighbors") if args.len() == 2 => neighbors,
             Some("infomap") if args.len() == 2 => grouping,
             Some("fit") if args.len() == 2 => fit,
-            _ => fail("usage: answer float|rng|stay|neighbors|infomap|fit"),
+            Some("reports") if args.len() == 2 => reports,
+            _ => fail(
+                "usage: answer float|rng|stay|neighbors|infomap|fit|reports",
+            ),
         };
     let mut numbers = Numbers::read();
     let cases = numbers.next();
