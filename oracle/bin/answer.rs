@@ -7,6 +7,7 @@ use edited::infomap::{self, run_infomap, Network};
 use edited::model::{self, Infostop};
 use edited::neighbors::{query_neighbors, BruteForceNeighbors};
 use edited::record;
+use edited::refusal::refusal;
 use edited::standin;
 use edited::stay::get_stationary_events;
 use edited::text::{fail, Line, Numbers};
@@ -124,35 +125,6 @@ fn grouping(n: &mut Numbers, out: &mut Line) {
     for m in modules {
         out.put(m);
     }
-}
-
-/// Document 01's number of a refusal, and its trace.
-fn refusal(e: &Error) -> (u32, usize) {
-    const CAUSES: [(&str, u32); 13] = [
-        ("`r1` must", 1),
-        ("`r2` must", 2),
-        ("`min_staying_time` must be finite", 3),
-        ("`max_time_between` must be finite", 4),
-        ("`max_time_between` must be >", 5),
-        ("`min_size` must", 6),
-        ("expected at least one trajectory", 7),
-        ("trajectory is empty", 11),
-        ("coordinates must be finite", 12),
-        ("timestamps must be finite", 13),
-        ("timestamps must be present", 14),
-        ("timestamps must be ordered", 15),
-        ("no stop locations labeled", 18),
-    ];
-    let message = e.to_string();
-    let Some((_, number)) = CAUSES.iter().find(|(c, _)| message.contains(c))
-    else {
-        fail(&format!("a refusal without a number: {message}"));
-    };
-    let trace = message
-        .strip_prefix("invalid input: trace ")
-        .and_then(|t| t.split(':').next())
-        .map_or(0, |t| t.parse().expect("a trace number"));
-    (*number, trace)
 }
 
 /// The labels of the fixes, the places with their labels, and the kept trial's mark and rounds.
