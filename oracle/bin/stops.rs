@@ -22,7 +22,11 @@ fn whole(word: &[u8]) -> Option<i64> {
     let size = digits.iter().fold(0i64, |v, d| {
         (v * 10 + i64::from(d - b'0')).min(2_000_000_000)
     });
-    let value = if digits.len() < word.len() { -size } else { size };
+    let value = if digits.len() < word.len() {
+        -size
+    } else {
+        size
+    };
     (size <= 1_000_000_000).then_some(value)
 }
 
@@ -70,7 +74,10 @@ fn add_fix(line: &[u8], traces: &mut Vec<Vec<TimedPoint>>) -> Option<()> {
         return None;
     }
     let point = Point::new(whole(x)? as f64, whole(y)? as f64);
-    traces[trace].push(TimedPoint { point, time: time(t)? });
+    traces[trace].push(TimedPoint {
+        point,
+        time: time(t)?,
+    });
     Some(())
 }
 
@@ -113,7 +120,8 @@ fn places(c: &Config, traces: &[Vec<TimedPoint>]) -> usize {
 /// The labels of each trace, or a refusal's number and trace.
 fn fit(text: &[u8]) -> Result<Vec<Vec<i32>>, (u32, usize)> {
     let (config, traces) = read(text).ok_or((22, 0))?;
-    let mut model = Infostop::from_config(config.clone()).map_err(|e| refusal(&e))?;
+    let mut model =
+        Infostop::from_config(config.clone()).map_err(|e| refusal(&e))?;
     let fixes: usize = traces.iter().map(Vec::len).sum();
     if traces.len() > TRACES || fixes > FIXES {
         return Err((9, 0));
@@ -133,7 +141,9 @@ fn main() {
     }
     let mut out = String::new();
     match fit(&text) {
-        Err((number, trace)) => out += &format!("refused trace\n{number} {trace}\n"),
+        Err((number, trace)) => {
+            out += &format!("refused trace\n{number} {trace}\n")
+        }
         Ok(labels) => {
             out += "trace fix label\n";
             for (t, trace) in labels.iter().enumerate() {

@@ -5,12 +5,32 @@ use std::path::Path;
 
 /// Mostly usable settings.
 fn settings(r: &mut Random) -> String {
-    let r1 = if r.chance(40) { r.pick(&["0", "-0", "-5"]) } else { r.pick(&["1", "5", "10", "30"]) };
-    let r2 = if r.chance(40) { r.pick(&["0", "-1"]) } else { r.pick(&["1", "10", "25", "60"]) };
+    let r1 = if r.chance(40) {
+        r.pick(&["0", "-0", "-5"])
+    } else {
+        r.pick(&["1", "5", "10", "30"])
+    };
+    let r2 = if r.chance(40) {
+        r.pick(&["0", "-1"])
+    } else {
+        r.pick(&["1", "10", "25", "60"])
+    };
     let single = r.below(2);
-    let stay = if r.chance(40) { r.pick(&["0", "-300"]) } else { r.pick(&["1", "60", "300"]) };
-    let gap = if r.chance(40) { r.pick(&["0", "60", "-1"]) } else { r.pick(&["600", "86400"]) };
-    let size = if r.chance(40) { r.below(2) } else { r.between(2, 4) };
+    let stay = if r.chance(40) {
+        r.pick(&["0", "-300"])
+    } else {
+        r.pick(&["1", "60", "300"])
+    };
+    let gap = if r.chance(40) {
+        r.pick(&["0", "60", "-1"])
+    } else {
+        r.pick(&["600", "86400"])
+    };
+    let size = if r.chance(40) {
+        r.below(2)
+    } else {
+        r.between(2, 4)
+    };
     let seed = r.pick(&["0", "1", "42", "43", "1000000000"]);
     format!("{r1} {r2} {single} {stay} {gap} {size} {seed}")
 }
@@ -34,7 +54,11 @@ fn tracks(r: &mut Random) -> String {
                 if r.chance(200) {
                     time -= 500;
                 }
-                let shown = if timed != r.chance(1000) { time.to_string() } else { "-".into() };
+                let shown = if timed != r.chance(1000) {
+                    time.to_string()
+                } else {
+                    "-".into()
+                };
                 out += &format!("{trace} {} {} {shown}\n", x + dx, y + dy);
             }
         }
@@ -69,22 +93,44 @@ fn damaged(r: &mut Random, text: &[u8]) -> Vec<u8> {
         4 => t.push(b'\n'),
         5 => t.truncate(at),
         6 => {
-            let word = r.pick(&["-0", "007", "1000000000", "1000000001", "-1000000000", "99999999999999999999999", "+1", "--1"]);
-            let start = t[..at].iter().rposition(|&b| b == b' ' || b == b'\n').map_or(0, |p| p + 1);
-            let end = t[at..].iter().position(|&b| b == b' ' || b == b'\n').map_or(t.len(), |p| at + p);
+            let word = r.pick(&[
+                "-0",
+                "007",
+                "1000000000",
+                "1000000001",
+                "-1000000000",
+                "99999999999999999999999",
+                "+1",
+                "--1",
+            ]);
+            let start = t[..at]
+                .iter()
+                .rposition(|&b| b == b' ' || b == b'\n')
+                .map_or(0, |p| p + 1);
+            let end = t[at..]
+                .iter()
+                .position(|&b| b == b' ' || b == b'\n')
+                .map_or(t.len(), |p| at + p);
             t.splice(start..end.max(start), word.bytes());
         }
         7 => {
-            let lines: Vec<&[u8]> = text.split_inclusive(|&b| b == b'\n').collect();
+            let lines: Vec<&[u8]> =
+                text.split_inclusive(|&b| b == b'\n').collect();
             let (a, b) = (r.below(lines.len()), r.below(lines.len()));
             let mut swapped = lines.clone();
             swapped.swap(a, b);
             t = swapped.concat();
         }
         _ => {
-            let lines: Vec<&[u8]> = text.split_inclusive(|&b| b == b'\n').collect();
+            let lines: Vec<&[u8]> =
+                text.split_inclusive(|&b| b == b'\n').collect();
             let gone = r.below(lines.len());
-            t = lines.iter().enumerate().filter(|l| l.0 != gone).flat_map(|l| l.1.to_vec()).collect();
+            t = lines
+                .iter()
+                .enumerate()
+                .filter(|l| l.0 != gone)
+                .flat_map(|l| l.1.to_vec())
+                .collect();
         }
     }
     t
@@ -98,7 +144,10 @@ fn text(r: &mut Random, i: usize) -> Vec<u8> {
         3 => standing(256 + i / 40 % 2, 2),
         _ => tracks(r),
     };
-    let whole = format!("r1 r2 single stay gap size seed\n{}\ntrace x y time\n{lines}", settings(r));
+    let whole = format!(
+        "r1 r2 single stay gap size seed\n{}\ntrace x y time\n{lines}",
+        settings(r)
+    );
     if r.chance(3) {
         damaged(r, whole.as_bytes())
     } else {
@@ -111,7 +160,8 @@ fn main() {
     let [_, folder, count] = &args[..] else {
         fail("usage: texts FOLDER COUNT");
     };
-    let count: usize = count.parse().unwrap_or_else(|_| fail("COUNT is no number"));
+    let count: usize =
+        count.parse().unwrap_or_else(|_| fail("COUNT is no number"));
     let mut r = Random(20_261_116);
     for i in 0..count {
         let path = Path::new(folder).join(format!("{i}.txt"));
