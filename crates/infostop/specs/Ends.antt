@@ -55,6 +55,7 @@ abbrev pub keepsWork : Outcome → Bool
 keepsWork (refused e) = ltb (numberOf e) 18
 keepsWork (fitted f) = false
 
+-- How the work slices end.
 abbrev pub WorkEnds : Outcome → List Float → List ℤ → List Float → List ℤ → Type 0
 WorkEnds o floats words floats' words' = keepsWork o ≡ true → (floats' ≡ floats) × (words' ≡ words)
 
