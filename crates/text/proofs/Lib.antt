@@ -1,0 +1,13 @@
+pub mod Run
+pub mod Stages
+pub mod Numbers
+pub mod Fields
+pub mod Rows
+pub mod Names
+pub mod Judged
+pub mod Finished
+pub mod InForm
+pub mod Contents
+pub mod Columns
+pub mod Lengths
+pub mod Pieces

@@ -1,0 +1,47 @@
+-- `text::in_form` meets its contract.
+use mathlib.Core.Path.{_∙_}
+use Rattle.text.proofs.Pieces.{fed-whole, fed-ended}
+use borrow.Author.Needs.{needs}
+use Rattle.text.proofs.in_form.Statement.{statement}
+use Rattle.text.proofs.in_form.Tie as tie
+
+start-requires : tie.Need-start-requires
+start-requires c κs = search needs
+
+slice-aggregate-feed : tie.Need-slice-aggregate-feed
+slice-aggregate-feed c = search needs
+
+slice-aggregate-feed-2 : tie.Need-slice-aggregate-feed-2
+slice-aggregate-feed-2 c = search needs
+
+slice-aggregate-feed-3 : tie.Need-slice-aggregate-feed-3
+slice-aggregate-feed-3 c = search needs
+
+slice-aggregate-feed-4 : tie.Need-slice-aggregate-feed-4
+slice-aggregate-feed-4 c = search needs
+
+slice-aggregate-feed-5 : tie.Need-slice-aggregate-feed-5
+slice-aggregate-feed-5 c = search needs
+
+feed-requires : tie.Need-feed-requires
+feed-requires c κs = search needs
+
+ended-requires : tie.Need-ended-requires
+ended-requires c κs = search needs
+
+returns : tie.Need-returns
+returns c = c .ended .ensures ∙ fed-ended _ _ _ _ _ _ _ _ _ _ _ _ (fed-whole (c .before .before .before .before .before .before .before .before .before .before .before .before .before .start .ensures) (c .before .before .before .before .before .before .before .feed .ensures))
+
+pub in-form-spec : {M : Type 1} → statement M
+in-form-spec =
+    tie.close
+    (tie.spec
+    start-requires
+    slice-aggregate-feed
+    slice-aggregate-feed-2
+    slice-aggregate-feed-3
+    slice-aggregate-feed-4
+    slice-aggregate-feed-5
+    feed-requires
+    ended-requires
+    returns)

@@ -1,0 +1,55 @@
+-- `text::parse` meets its contract.
+use mathlib.Core.Path.{sym, _∙_}
+use Rattle.text.proofs.Pieces.{parses-whole, parses-outside}
+use borrow.Author.Needs.{needs}
+use Rattle.text.proofs.parse.Statement.{statement}
+use Rattle.text.proofs.parse.Tie as tie
+
+in-form-requires : tie.Need-in-form-requires
+in-form-requires c κs = search needs
+
+start-requires : tie.Need-start-requires
+start-requires c κs = search needs
+
+feed-requires : tie.Need-feed-requires
+feed-requires c κs = search needs
+
+finish-requires : tie.Need-finish-requires
+finish-requires c κs = search needs
+
+same-length : tie.Need-same-length
+same-length c = search needs
+
+same-length-2 : tie.Need-same-length-2
+same-length-2 c = search needs
+
+same-length-3 : tie.Need-same-length-3
+same-length-3 c = search needs
+
+same-length-4 : tie.Need-same-length-4
+same-length-4 c = search needs
+
+same-length-5 : tie.Need-same-length-5
+same-length-5 c = search needs
+
+returns : tie.Need-returns
+returns c = parses-whole _ _ _ _ _ _ _ _ _ _ _ _ _ _ (c .before .before .before .before .before .before .before .before .before .before .before .before .before .before .before .before .before .start .ensures) (c .before .before .before .before .before .before .before .before .before .before .before .feed .ensures) (c .finish .ensures) (sym (c .before .before .before .before .before .before .before .before .before .before .before .before .before .before .before .before .before .before .before .in-form .ensures) ∙ c .before .before .before .before .before .before .before .before .before .before .before .before .before .before .before .before .before .before .if1 .taken)
+
+returns-2 : tie.Need-returns-2
+returns-2 c = parses-outside _ _ _ _ _ _ (sym (c .before .in-form .ensures) ∙ c .if1 .left)
+
+pub parse-spec : {M : Type 1} → statement M
+parse-spec =
+    tie.close
+    (tie.spec
+    in-form-requires
+    start-requires
+    feed-requires
+    finish-requires
+    same-length
+    same-length-2
+    same-length-3
+    same-length-4
+    same-length-5
+    returns
+    returns-2)

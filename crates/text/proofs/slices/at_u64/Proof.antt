@@ -1,0 +1,21 @@
+-- `text::slices::at_u64` meets its contract.
+use mathlib.Core.Path.{sym}
+use lib.ListN.{List·getD-eq-default}
+use borrow.Author.Needs.{needs}
+use Rattle.text.proofs.slices.at_u64.Statement.{statement}
+use Rattle.text.proofs.slices.at_u64.Tie as tie
+
+mul-result : tie.Need-mul-result
+mul-result c = search needs
+
+shared-slice-read-result : tie.Need-shared-slice-read-result
+shared-slice-read-result c = search needs
+
+returns : tie.Need-returns
+returns c = search needs
+
+returns-2 : tie.Need-returns-2
+returns-2 c = sym (List·getD-eq-default (c .before .args .l .now) _ (c .if1 .left))
+
+pub at-u64-spec : {M : Type 1} → statement M
+at-u64-spec = tie.close (tie.spec mul-result shared-slice-read-result returns returns-2)

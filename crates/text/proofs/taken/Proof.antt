@@ -1,0 +1,24 @@
+-- `text::taken` meets its contract.
+use mathlib.Core.Path.{sym, ap, _∙_}
+use borrow.Author.Tests.{lt-ltb, le-ltb}
+use Rattle.text.specs.Parsed.{tooMany, unlessMany, taken}
+use borrow.Author.Needs.{needs}
+use Rattle.text.proofs.taken.Statement.{statement}
+use Rattle.text.proofs.taken.Tie as tie
+
+check-config-requires : tie.Need-check-config-requires
+check-config-requires c κs = search needs
+
+too-many-requires : tie.Need-too-many-requires
+too-many-requires c κs = search needs
+
+returns : tie.Need-returns
+unfolding taken unlessMany
+returns c = c .too-many .ensures ∙ ap tooMany (c .before .check-config .ensures) ∙ sym (rw (lt-ltb _ _ (c .before .before .if1 .taken)))
+
+returns-2 : tie.Need-returns-2
+unfolding taken unlessMany
+returns-2 c = sym (rw (le-ltb _ _ (c .if1 .left)))
+
+pub taken-spec : {M : Type 1} → statement M
+taken-spec = tie.close (tie.spec check-config-requires too-many-requires returns returns-2)

@@ -1,0 +1,203 @@
+-- Texts that the definitions are tried on: document 01's example, and the edges of its rules. Proved by computing.
+use mathlib.Core.Path.{_≡_, refl}
+use mathlib.Core.Bool.{Bool, true, false}
+use mathlib.Core.List.{List, [], _∷_, _++_}
+use mathlib.Core.Option.{none, some}
+use Prim.Native.Nat.{ℕ}
+use Prim.Native.String.{String}
+use lib.Ieee.{Float, neg, le, ofInt, ofBits}
+use Rattle.float.specs.Binary64.{whole64, zero64, finite}
+use Rattle.lists.specs.Lists.{overlay}
+use Rattle.tracks.specs.declared.config.Config.{Config}
+use Rattle.tracks.specs.declared.refusal.Refusal.the-variants.{R1, Counts, Text}
+use Rattle.tracks.specs.Checks.{refuseIf, firstOf, inTurn}
+use Rattle.tracks.specs.Settings.{unusable, checkTimeBounds, checkConfig}
+use Rattle.text.specs.declared.Parsed.{Parsed}
+use Rattle.text.specs.declared.Parsed.the-variants.{Tracks, Refused}
+use Rattle.text.specs.Bytes.{bytes, isDigit}
+use Rattle.text.specs.Fields.{allDigits, sizeFrom, digitsOf, afterMinus, fieldOf, isWhole, isNatural, isField, sizeOf, floatOf, timeOf}
+use Rattle.text.specs.Form.{settingNames, fixNames, restIf, past, cons, cut, add, rowIf, put, rowAfter, rowOf, settingEnds, fixEnds, settingsIn, fixIn, also, fixAfter, atEnd, fixLines, withFixes, afterFixNames, linesIf, afterSettings, afterSettingNames, linesOf}
+use Rattle.text.specs.Values.{configOf, fixOf, Read, outside, inside, valuesOf, read, timeMark, xsOf, marksOf, withFix, lengthsFrom, lengthsOf}
+use Rattle.text.specs.Parsed.{tooMany, unlessMany, taken, parsed, into, firstFixes, filled}
+use Rattle.text.specs.Steps.{initial, refused, begun, signed, grown, ended, nameByte, fieldByte, fieldSign, endOf, after, ends, rowByte, rowSizes, rowSigns, lexed, lexedSizes, lexedSigns, setLine, fixLine, settingsOk, settled, fixOk, more, counted, noted, judged, stored, signedWhole, timed, kept, step, run}
+use Rattle.text.specs.Pieces.{startReader, holding}
+
+-- What a text says, and what parsing hands back.
+reads : List ℕ → Read
+unfolding read valuesOf configOf fixOf linesOf afterSettingNames afterSettings linesIf afterFixNames withFixes fixLines atEnd fixAfter also fixIn settingsIn fixEnds settingEnds rowOf rowAfter put rowIf add cut cons past restIf fixNames settingNames timeOf floatOf sizeOf isField isNatural isWhole fieldOf afterMinus digitsOf sizeFrom allDigits isDigit bytes neg ofInt ofBits
+reads t = read t
+
+parses : List ℕ → Parsed
+unfolding reads parsed taken unlessMany tooMany lengthsOf lengthsFrom withFix checkConfig checkTimeBounds unusable inTurn firstOf refuseIf finite le
+parses t = parsed (reads t)
+
+-- Whether the machine takes a text, byte by byte.
+takes : List ℕ → Bool
+unfolding bytes initial refused begun signed grown ended nameByte fieldByte isDigit fieldSign endOf after ends rowByte rowSizes rowSigns settingNames fixNames lexed lexedSizes lexedSigns setLine fixLine settingsOk settled fixOk more counted noted judged stored signedWhole timed kept step run startReader
+takes t = ended (run (holding startReader [] [] [] [] []) t .at)
+
+-- Names and settings as in document 01, and these lines of fixes.
+fixesOf : String → List ℕ
+unfolding bytes
+fixesOf s = bytes "r1 r2 single stay gap size seed\n10 10 1 300 86400 2 42\ntrace x y time\n" ++ bytes s
+
+-- These settings, and no fix.
+settingsOf : String → List ℕ
+unfolding bytes
+settingsOf s = bytes "r1 r2 single stay gap size seed\n" ++ bytes s ++ bytes "trace x y time\n"
+
+abbrev w : ℕ → Float
+w = whole64
+
+usual : Config
+usual = record { r1 = w 10; r2 = w 10; «label_singleton» = true; «min_staying_time» = w 300; «max_time_between» = w 86400; «min_size» = 2; seed = 42 }
+
+-- ---- document 01's example
+
+example : List ℕ
+unfolding bytes
+example = bytes "r1 r2 single stay gap size seed\n10 10 1 300 86400 2 42\ntrace x y time\n0 0 0 -\n0 3 4 -\n"
+
+example-reads : reads example ≡ inside usual (record { trace = 0; x = w 0; y = w 0; time = none } ∷ record { trace = 0; x = w 3; y = w 4; time = none } ∷ [])
+unfolding reads example usual
+example-reads = refl
+
+example-parses : parses example ≡ Tracks (record { config = usual; fixes = 2; traces = 1 })
+unfolding parses example usual
+example-parses = refl
+
+example-taken : takes example ≡ true
+unfolding takes example
+example-taken = refl
+
+-- The slices: two fixes of one trace, without times; behind them stays what was there.
+example-xs : filled xsOf (reads example) (w 7 ∷ w 7 ∷ w 7 ∷ []) ≡ w 0 ∷ w 3 ∷ w 7 ∷ []
+unfolding reads example filled into overlay firstFixes
+example-xs = refl
+
+example-marks : filled marksOf (reads example) (7 ∷ 7 ∷ 7 ∷ []) ≡ 0 ∷ 0 ∷ 7 ∷ []
+unfolding reads example filled into overlay firstFixes timeMark
+example-marks = refl
+
+example-lens : filled lengthsOf (reads example) (7 ∷ 7 ∷ 7 ∷ []) ≡ 2 ∷ 7 ∷ 7 ∷ []
+unfolding reads example filled into overlay firstFixes lengthsOf lengthsFrom withFix
+example-lens = refl
+
+-- ---- numbers
+
+-- -0 is 0.0; zeros in front are digits; a time may be negative. Two traces.
+minus-zero : reads (fixesOf "0 -0 007 -12\n1 1 1 5\n") ≡ inside usual (record { trace = 0; x = zero64; y = w 7; time = some (neg (w 12)) } ∷ record { trace = 1; x = w 1; y = w 1; time = some (w 5) } ∷ [])
+unfolding reads fixesOf usual
+minus-zero = refl
+
+minus-zero-taken : takes (fixesOf "0 -0 007 -12\n1 1 1 5\n") ≡ true
+unfolding takes fixesOf
+minus-zero-taken = refl
+
+largest : reads (fixesOf "0 1000000000 -1000000000 -\n") ≡ inside usual (record { trace = 0; x = w 1000000000; y = neg (w 1000000000); time = none } ∷ [])
+unfolding reads fixesOf usual
+largest = refl
+
+-- ---- not in the form, by the grammar and by the machine
+
+abbrev Outside : List ℕ → Type 0
+Outside t = (reads t ≡ outside) × (takes t ≡ false)
+
+empty : Outside []
+unfolding reads takes
+empty = (refl, refl)
+
+too-large : Outside (fixesOf "0 1000000001 0 -\n")
+unfolding reads takes fixesOf
+too-large = (refl, refl)
+
+no-last-feed : Outside (fixesOf "0 0 0 -")
+unfolding reads takes fixesOf
+no-last-feed = (refl, refl)
+
+two-spaces : Outside (fixesOf "0  0 0 -\n")
+unfolding reads takes fixesOf
+two-spaces = (refl, refl)
+
+empty-field : Outside (fixesOf "0 0  -\n")
+unfolding reads takes fixesOf
+empty-field = (refl, refl)
+
+space-at-end : Outside (fixesOf "0 0 0 - \n")
+unfolding reads takes fixesOf
+space-at-end = (refl, refl)
+
+empty-line : Outside (fixesOf "\n")
+unfolding reads takes fixesOf
+empty-line = (refl, refl)
+
+three-fields : Outside (fixesOf "0 0 0\n0 -\n")
+unfolding reads takes fixesOf
+three-fields = (refl, refl)
+
+plus-sign : Outside (fixesOf "0 +1 0 -\n")
+unfolding reads takes fixesOf
+plus-sign = (refl, refl)
+
+-- Only a time may be a minus alone.
+no-x : Outside (fixesOf "0 - 0 -\n")
+unfolding reads takes fixesOf
+no-x = (refl, refl)
+
+-- Traces rise from 0 without gaps.
+trace-gap : Outside (fixesOf "0 0 0 -\n2 3 4 -\n")
+unfolding reads takes fixesOf
+trace-gap = (refl, refl)
+
+first-trace-1 : Outside (fixesOf "1 0 0 -\n")
+unfolding reads takes fixesOf
+first-trace-1 = (refl, refl)
+
+trace-back : Outside (fixesOf "0 0 0 -\n1 0 0 -\n0 0 0 -\n")
+unfolding reads takes fixesOf
+trace-back = (refl, refl)
+
+single-2 : Outside (settingsOf "10 10 2 300 86400 2 42\n")
+unfolding reads takes settingsOf
+single-2 = (refl, refl)
+
+negative-size : Outside (settingsOf "10 10 1 300 86400 -2 42\n")
+unfolding reads takes settingsOf
+negative-size = (refl, refl)
+
+negative-seed : Outside (settingsOf "10 10 1 300 86400 2 -42\n")
+unfolding reads takes settingsOf
+negative-seed = (refl, refl)
+
+names-swapped : Outside (bytes "r1 r2 single stay gap seed size\n10 10 1 300 86400 2 42\ntrace x y time\n")
+unfolding reads takes bytes
+names-swapped = (refl, refl)
+
+outside-parses : parses (fixesOf "0 0 0 -") ≡ Refused Text
+unfolding parses fixesOf
+outside-parses = refl
+
+-- ---- in the form
+
+-- No fix line: a fit answers 7.
+no-fix : parses (settingsOf "10 10 1 300 86400 2 42\n") ≡ Tracks (record { config = usual; fixes = 0; traces = 0 })
+unfolding parses settingsOf usual
+no-fix = refl
+
+-- Settings that the check refuses are in the form: -1, 0 and size 0.
+negative-r1 : reads (settingsOf "-1 0 0 300 86400 0 0\n") ≡ inside (record { r1 = neg (w 1); r2 = w 0; «label_singleton» = false; «min_staying_time» = w 300; «max_time_between» = w 86400; «min_size» = 0; seed = 0 }) []
+unfolding reads settingsOf
+negative-r1 = refl
+
+-- 769 fixes are 9, unless the settings are refused.
+many : Config → Parsed
+unfolding taken unlessMany tooMany checkConfig checkTimeBounds unusable inTurn firstOf refuseIf finite le ofInt ofBits
+many c = taken c 769 1
+
+one-too-many : many usual ≡ Refused Counts
+unfolding many usual
+one-too-many = refl
+
+settings-first : many (record { r1 = w 0; r2 = w 10; «label_singleton» = true; «min_staying_time» = w 300; «max_time_between» = w 86400; «min_size» = 2; seed = 42 }) ≡ Refused R1
+unfolding many
+settings-first = refl
