@@ -13,7 +13,7 @@ use Rattle.lists.proofs.Tests.{and-right}
 use Rattle.text.specs.declared.state.State.{State}
 use Rattle.text.specs.Fields.{Field, number, dash, bad, isNatural, isWhole, sizeOf, floatOf, timeOf}
 use Rattle.text.specs.Form.{settingNames, fixNames, Row, noRow, row, rowOf, settingEnds, fixEnds, settingsIn, fixIn, traceOf, Fixes, noFixes, fixes, also, fixAfter, atEnd, fixLines, Rest, gone, rest, past, Lines, noLines, lines, withFixes, afterFixNames, linesIf, afterSettings, afterSettingNames, linesOf}
-use Rattle.text.specs.Values.{FixLine, fixOf, timeValue, timeMark}
+use Rattle.text.specs.Values.{FixLine, fixOf, timeValue, timeMark, Rising}
 use Rattle.text.specs.Steps.{signedWhole, timed, more, Machine, machine, initial, begun, settingsOk, fixOk, noted, counted, setLine, fixLine, judged, stored, kept, run}
 use Rattle.text.proofs.Numbers.{signOf}
 use Rattle.text.proofs.Fields.{moved}
@@ -46,11 +46,6 @@ noteLens l c n k (p ∷ ps) = noteLens (kept (ltb c 768) l (p .trace) (lenAfter 
 unfoldable pub tracesFrom : ℕ → List FixLine → ℕ
 tracesFrom n [] = n
 tracesFrom n (p ∷ ps) = tracesFrom (p .trace + 1) ps
-
--- Traces rise without gaps, after n of them.
-unfoldable pub Rising : ℕ → List FixLine → Type 0
-Rising n [] = Unit
-Rising n (p ∷ ps) = ((p .trace ≡ n) ⊎ (p .trace + 1 ≡ n)) × Rising (p .trace + 1) ps
 
 -- The machine n after the fixes ps, from the machine m at the state s.
 pub record Holds (m : Machine) (s : State) (ps : List FixLine) (n : Machine) : Type 0 where

@@ -10,20 +10,20 @@ use borrow.Author.Tests.{eq-eqb, ne-eqb, lt-ltb, le-ltb, ltb-true, ltb-false}
 use lib.Dec.{ltb}
 use lib.ListN.{length, length-append, set, take}
 use lib.Seq.{take-nil}
-use Rattle.text.specs.Values.{FixLine, withFix, lengthsFrom, lengthsOf}
+use Rattle.text.specs.Values.{FixLine, withFix, lengthsFrom, lengthsOf, Rising}
 use Rattle.text.specs.Parsed.{into, firstFixes}
 use Rattle.text.specs.Steps.{more, kept}
-use Rattle.text.proofs.Contents.{lenAfter, noteLens, tracesFrom, Rising}
+use Rattle.text.proofs.Contents.{lenAfter, noteLens, tracesFrom}
 use Rattle.text.proofs.Columns.{one-left, none-left, more-past, into-nil, into-more, into-last}
 
 -- ---- one fix more
 
-with-next : (ns : List ℕ) → withFix ns (length ns) ≡ ns ++ (1 ∷ [])
+pub with-next : (ns : List ℕ) → withFix ns (length ns) ≡ ns ++ (1 ∷ [])
 unfolding withFix
 with-next [] = refl
 with-next (n ∷ ns) = ap (λ (r : List ℕ). n ∷ r) (with-next ns)
 
-with-last : (ns : List ℕ) (k : ℕ) → withFix (ns ++ (k ∷ [])) (length ns) ≡ ns ++ (suc k ∷ [])
+pub with-last : (ns : List ℕ) (k : ℕ) → withFix (ns ++ (k ∷ [])) (length ns) ≡ ns ++ (suc k ∷ [])
 unfolding withFix
 with-last [] k = refl
 with-last (n ∷ ns) k = ap (λ (r : List ℕ). n ∷ r) (with-last ns k)

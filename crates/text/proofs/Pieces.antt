@@ -6,7 +6,7 @@ use Prim.Native.Nat.{ℕ, _≤_, _<_}
 use native.Mathlib.Omega.{arith}
 use borrow.Author.Tests.{ltb-true, ltb-false}
 use lib.Dec.{ltb}
-use lib.ListN.{length, getD}
+use lib.ListN.{length, getD, replicate}
 use lib.Ieee.{Float}
 use Rattle.lists.proofs.Tests.{clash}
 use Rattle.tracks.specs.declared.config.Config.{Config}
@@ -16,7 +16,7 @@ use Rattle.text.specs.declared.Parsed.{Parsed}
 use Rattle.text.specs.declared.Parsed.the-variants.{Refused}
 use Rattle.text.specs.Fields.{Field, bad, sizeOf}
 use Rattle.text.specs.Form.{Lines, noLines, lines, linesOf, areLines, inForm}
-use Rattle.text.specs.Values.{FixLine, configOf, fixOf, Read, outside, inside, valuesOf, read, xsOf, ysOf, timesOf, marksOf, lengthsOf}
+use Rattle.text.specs.Values.{FixLine, configOf, fixOf, Read, outside, inside, valuesOf, read, xsOf, ysOf, timesOf, marksOf, lengthsOf, Rising}
 use Rattle.text.specs.Parsed.{unlessMany, taken, parsed, into, firstFixes, filled, Parses}
 use Rattle.text.specs.Steps.{Machine, run, initial, ended}
 use Rattle.text.specs.Pieces.{startReader, holding, configIn, finishedIf, finished, Fed, ReadAs}
@@ -133,6 +133,18 @@ module _ (xs ys times : List Float) (marks lens t : List ℕ) where
             answer = rw (n, e) (w .0);
             columns = λ c. λ ls. λ q. let z : inside (configOf s) (map fixOf l) ≡ inside c ls = rw e at q in let v : map fixOf l ≡ ls = cc in rw (← v) (w .1, w .2, w .3, w .4, w .5);
           }
+
+-- The traces of a text rise from 0 without gaps.
+pub rises : (t : List ℕ) (c : Config) (ps : List FixLine) → read t ≡ inside c ps → Rising 0 ps
+unfolding read valuesOf initial
+rises t c ps q = go (linesOf t) refl
+  where
+    go : (L : Lines) → linesOf t ≡ L → Rising 0 ps
+    go noLines e = let z : _≡_ {A = Read} outside (inside c ps) = rw e at q in let w : _≡_ {A = ℕ} 0 1 = cc in absurd (omega arith)
+    go (lines f l) e =
+        let z : inside (configOf f) (map fixOf l) ≡ inside c ps = rw e at q in
+        let v : map fixOf l ≡ ps = cc in
+        subst (Rising 0) v (contents-theorem t (replicate 11 0) (replicate 11 0) [] [] [] [] [] refl refl f l e .rising)
 
 -- ---- a text in one piece
 

@@ -1,5 +1,7 @@
 -- What a text in the house form says: settings, and fixes with their traces; and the columns that a fit is given. Definitions only.
-use Prim.Native.Nat.{ℕ, zero, suc}
+use mathlib.Core.Logic.{_⊎_}
+use mathlib.Core.Path.{_≡_}
+use Prim.Native.Nat.{ℕ, zero, suc, _+_}
 use mathlib.Core.List.{List, [], _∷_, map}
 use mathlib.Core.Option.{Option, none, some}
 use lib.Dec.{eqb}
@@ -79,3 +81,8 @@ lengthsFrom ns (l ∷ ls) = lengthsFrom (withFix ns (l .trace)) ls
 -- The lengths of the traces: each line is a fix of its trace.
 unfoldable pub lengthsOf : List FixLine → List ℕ
 lengthsOf ls = lengthsFrom [] ls
+
+-- Traces rise without gaps, after n of them: those of every text do, from 0 (proofs/Pieces.antt, `rises`).
+unfoldable pub Rising : ℕ → List FixLine → Type 0
+Rising n [] = Unit
+Rising n (l ∷ ls) = ((l .trace ≡ n) ⊎ (l .trace + 1 ≡ n)) × Rising (l .trace + 1) ls

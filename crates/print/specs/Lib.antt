@@ -1,0 +1,4 @@
+pub mod Lines
+pub mod InOrder
+pub mod Written
+pub mod Facts
