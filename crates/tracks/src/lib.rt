@@ -2,7 +2,7 @@
 // its order: 7, 8, 9, 10, 17; then trace by trace 11 to 15; after all traces 16.
 pub mod config;
 pub mod refusal;
-mod slices;
+pub mod slices;
 mod trace;
 
 use crate::refusal::Checked;

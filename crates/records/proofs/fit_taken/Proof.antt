@@ -1,0 +1,127 @@
+-- `records::fit_taken` meets its contract.
+use mathlib.Core.Path.{refl}
+use lib.ListN.{length}
+use Rattle.records.proofs.Steps.{too-short, long-enough}
+use Rattle.records.proofs.Fits.{no-columns, no-marks, promised-short, promised-long}
+use borrow.Author.Needs.{needs}
+use Rattle.records.proofs.fit_taken.Statement.{statement}
+use Rattle.records.proofs.fit_taken.Tie as tie
+
+refuse-short-requires : tie.Need-refuse-short-requires
+refuse-short-requires c κs = search needs
+
+returns : tie.Need-returns
+returns c =
+    let a = c .before .before .before .before .before .before .args in
+    (refl, refl, λ fs is h. promised-short (a .model) fs (a .lens .now) (a .labels .now) (a .places) (length (a .columns .now)) (length (a .marks .now)) (a .floats .now) (a .words .now) (a .n) is (no-columns (a .n) (length (a .columns .now)) (length (a .marks .now)) (too-short _ _ (c .before .if1 .taken))) _ (c .refuse-short .ensures))
+
+refuse-short-requires-2 : tie.Need-refuse-short-requires-2
+refuse-short-requires-2 c κs = search needs
+
+returns-2 : tie.Need-returns-2
+returns-2 c =
+    let a = c .before .before .before .before .before .before .before .args in
+    (refl, refl, λ fs is h. promised-short (a .model) fs (a .lens .now) (a .labels .now) (a .places) (length (a .columns .now)) (length (a .marks .now)) (a .floats .now) (a .words .now) (a .n) is (no-marks (a .n) (length (a .columns .now)) (length (a .marks .now)) (long-enough _ _ (c .before .before .if1 .left)) (c .before .if2 .taken)) _ (c .refuse-short2 .ensures))
+
+mul-y : tie.Need-mul-y
+mul-y c = search needs
+
+mul-end : tie.Need-mul-end
+mul-end c = search needs
+
+sub-fit-predict-many : tie.Need-sub-fit-predict-many
+sub-fit-predict-many c = search needs
+
+part-fit-predict-many-start : tie.Need-part-fit-predict-many-start
+part-fit-predict-many-start c = search needs
+
+part-fit-predict-many-end : tie.Need-part-fit-predict-many-end
+part-fit-predict-many-end c = search needs
+
+mul-fit-predict-many : tie.Need-mul-fit-predict-many
+mul-fit-predict-many c = search needs
+
+sub-fit-predict-many-2 : tie.Need-sub-fit-predict-many-2
+sub-fit-predict-many-2 c = search needs
+
+part-fit-predict-many-start-2 : tie.Need-part-fit-predict-many-start-2
+part-fit-predict-many-start-2 c = search needs
+
+part-fit-predict-many-end-2 : tie.Need-part-fit-predict-many-end-2
+part-fit-predict-many-end-2 c = search needs
+
+mul-fit-predict-many-2 : tie.Need-mul-fit-predict-many-2
+mul-fit-predict-many-2 c = search needs
+
+sub-fit-predict-many-3 : tie.Need-sub-fit-predict-many-3
+sub-fit-predict-many-3 c = search needs
+
+part-fit-predict-many-start-3 : tie.Need-part-fit-predict-many-start-3
+part-fit-predict-many-start-3 c = search needs
+
+part-fit-predict-many-end-3 : tie.Need-part-fit-predict-many-end-3
+part-fit-predict-many-end-3 c = search needs
+
+sub-fit-predict-many-4 : tie.Need-sub-fit-predict-many-4
+sub-fit-predict-many-4 c = search needs
+
+part-fit-predict-many-start-4 : tie.Need-part-fit-predict-many-start-4
+part-fit-predict-many-start-4 c = search needs
+
+part-fit-predict-many-end-4 : tie.Need-part-fit-predict-many-end-4
+part-fit-predict-many-end-4 c = search needs
+
+fit-predict-many-requires : tie.Need-fit-predict-many-requires
+fit-predict-many-requires c κs = search needs
+
+same-length : tie.Need-same-length
+same-length c = search needs
+
+same-length-2 : tie.Need-same-length-2
+same-length-2 c = search needs
+
+same-length-3 : tie.Need-same-length-3
+same-length-3 c = search needs
+
+same-length-4 : tie.Need-same-length-4
+same-length-4 c = search needs
+
+same-length-5 : tie.Need-same-length-5
+same-length-5 c = search needs
+
+returns-3 : tie.Need-returns-3
+returns-3 c =
+    let a = c .before .before .before .before .before .before .before .before .before .before .before .before .before .before .before .before .before .before .before .before .args in
+    (refl, refl, λ fs is h. promised-long (a .model) fs (a .lens .now) (a .labels .now) (a .places) (a .columns .now) (a .marks .now) (a .floats .now) (a .words .now) (a .n) is (long-enough _ _ (c .before .before .before .before .before .before .before .before .before .before .before .before .before .before .before .if1 .left)) (c .before .before .before .before .before .before .before .before .before .before .before .before .before .before .if2 .left) h _ _ _ _ (c .before .before .before .before .fit-predict-many .ensures .0) (c .before .before .before .before .fit-predict-many .ensures .1))
+
+pub fit-taken-spec : {M : Type 1} → statement M
+fit-taken-spec =
+    tie.close
+    (tie.spec
+    refuse-short-requires
+    returns
+    refuse-short-requires-2
+    returns-2
+    mul-y
+    mul-end
+    sub-fit-predict-many
+    part-fit-predict-many-start
+    part-fit-predict-many-end
+    mul-fit-predict-many
+    sub-fit-predict-many-2
+    part-fit-predict-many-start-2
+    part-fit-predict-many-end-2
+    mul-fit-predict-many-2
+    sub-fit-predict-many-3
+    part-fit-predict-many-start-3
+    part-fit-predict-many-end-3
+    sub-fit-predict-many-4
+    part-fit-predict-many-start-4
+    part-fit-predict-many-end-4
+    fit-predict-many-requires
+    same-length
+    same-length-2
+    same-length-3
+    same-length-4
+    same-length-5
+    returns-3)
