@@ -1,0 +1,4 @@
+pub mod Copies
+pub mod Answers
+pub mod Held
+pub mod PlaceReports
