@@ -3,20 +3,10 @@ use crate::answer::Reported;
 use infostop::model::Infostop;
 use tracks::refusal::Checked;
 ghost use mathlib.Core.Path.{_≡_};
-ghost use Prim.Native.Nat.{_≤_, min};
+ghost use Prim.Native.Nat.{_≤_};
 ghost use lib.ListN.{length};
 ghost use Rattle.lists.specs.Lists.{overlay};
 ghost use Rattle.reports.specs.Reports.{PointsReported, LabelsReported};
-
-// The smaller of a count and 512.
-pub fn at_most_512(count: usize) -> usize
-    ensures { λ r. ⌜ r ≡ min count 512 ⌝ }
-{
-    if count < 512 {
-        return count;
-    }
-    512
-}
 
 // All of `from` to the front of `to`.
 fn copy_floats(from: &[f64], to: &mut [f64])
@@ -45,9 +35,9 @@ fn copy_labels(from: &[i32], to: &mut [i32])
 pub fn stationary_points(m: Infostop, xs: &mut [f64], ys: &mut [f64]) -> Reported
     ensures { λ r. ⌜ PointsReported m (now (xs .entry)) (now (ys .entry)) r (now (xs .exit)) (now (ys .exit)) ⌝ }
 {
-    let n = at_most_512(m.count);
-    let lacking = crate::answer::short(n, xs.len(), ys.len());
-    let checked = crate::answer::check_model(m.fitted, lacking);
+    let n = crate::checks::at_most_512(m.count);
+    let lacking = crate::checks::short(n, xs.len(), ys.len());
+    let checked = crate::checks::check_model(m.fitted, lacking);
     if let Checked::Refused(e) = checked {
         return Reported::Refused(e);
     }
@@ -62,9 +52,9 @@ pub fn stationary_points(m: Infostop, xs: &mut [f64], ys: &mut [f64]) -> Reporte
 pub fn stationary_labels(m: Infostop, labels: &mut [i32]) -> Reported
     ensures { λ r. ⌜ LabelsReported m (now (labels .entry)) r (now (labels .exit)) ⌝ }
 {
-    let n = at_most_512(m.count);
+    let n = crate::checks::at_most_512(m.count);
     let lacking = labels.len() < n;
-    let checked = crate::answer::check_model(m.fitted, lacking);
+    let checked = crate::checks::check_model(m.fitted, lacking);
     if let Checked::Refused(e) = checked {
         return Reported::Refused(e);
     }

@@ -1,9 +1,9 @@
--- `reports::answer::check_model` meets its contract.
+-- `reports::checks::check_model` meets its contract.
 use borrow.Author.Tests.{not-true, not-false}
 use Rattle.tracks.specs.Checks.{refuseIf, firstOf, inTurn}
 use Rattle.reports.specs.Reports.{checkModel}
-use Rattle.reports.proofs.answer.check_model.Statement.{statement}
-use Rattle.reports.proofs.answer.check_model.Tie as tie
+use Rattle.reports.proofs.checks.check_model.Statement.{statement}
+use Rattle.reports.proofs.checks.check_model.Tie as tie
 
 returns : tie.Need-returns
 unfolding checkModel refuseIf firstOf inTurn

@@ -1,7 +1,7 @@
--- `reports::answer::short` meets its contract.
+-- `reports::checks::short` meets its contract.
 use borrow.Author.Tests.{lt-ltb, le-ltb}
-use Rattle.reports.proofs.answer.short.Statement.{statement}
-use Rattle.reports.proofs.answer.short.Tie as tie
+use Rattle.reports.proofs.checks.short.Statement.{statement}
+use Rattle.reports.proofs.checks.short.Tie as tie
 
 returns : tie.Need-returns
 returns c = rw (lt-ltb _ _ (c .if1 .taken))
