@@ -4,3 +4,6 @@ pub mod Held
 pub mod PlaceReports
 pub mod Starts
 pub mod ViewParts
+pub mod Upward
+pub mod Gathered
+pub mod MedianReports

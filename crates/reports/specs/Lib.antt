@@ -1,2 +1,4 @@
 pub mod Reports
 pub mod View
+pub mod Labels
+pub mod LabelMedians
