@@ -7,3 +7,7 @@ pub mod ViewParts
 pub mod Upward
 pub mod Gathered
 pub mod MedianReports
+pub mod Counted
+pub mod StayLabels
+pub mod OneTraces
+pub mod VisitReports

@@ -2,3 +2,5 @@ pub mod Reports
 pub mod View
 pub mod Labels
 pub mod LabelMedians
+pub mod Visits
+pub mod Steps

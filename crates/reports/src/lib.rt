@@ -5,3 +5,4 @@ mod labels;
 pub mod medians;
 pub mod stationary;
 pub mod view;
+pub mod visits;
