@@ -74,3 +74,7 @@ checkReportTracks xs ys ts ms lens floats words =
     ∷ checkWork (length xs) 0 floats words
     ∷ checkContents xs ys ts ms lens
     ∷ [])
+
+-- For trace lengths and a label slice alone: 7, 8. There are no fix slices, so their lengths are passed over.
+abbrev pub checkLabelLengths : List ℕ → ℕ → Checked
+checkLabelLengths lens labels = checkLengths lens labels labels labels labels labels

@@ -14,7 +14,7 @@ ghost use lib.Ieee.{Float};
 ghost use Rattle.stay.specs.Trace.{fixes};
 ghost use Rattle.tracks.specs.Checks.{eachFrom};
 ghost use Rattle.tracks.specs.Traces.{checkTrace, checkSize};
-ghost use Rattle.tracks.specs.Tracks.{total, traces, checkContents, checkTracks, checkReportTracks};
+ghost use Rattle.tracks.specs.Tracks.{total, traces, checkLabelLengths, checkContents, checkTracks, checkReportTracks};
 
 // 11 to 15, trace by trace.
 fn check_traces(xs: &[f64], ys: &[f64], times: &[f64], marks: &[u8], lens: &[u32]) -> Checked
@@ -132,4 +132,11 @@ pub fn check_report_tracks(
         return c;
     }
     check_contents(xs, ys, times, marks, lens)
+}
+
+// The checks of trace lengths and a label slice alone: 7 and 8.
+pub fn check_label_lengths(lens: &[u32], labels: usize) -> Checked
+    ensures { λ r. ⌜ r ≡ checkLabelLengths (now (lens .entry)) labels ⌝ }
+{
+    crate::slices::check_lengths(lens, labels, labels, labels, labels, labels)
 }

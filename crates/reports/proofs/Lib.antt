@@ -1,0 +1,13 @@
+pub mod Copies
+pub mod Answers
+pub mod Held
+pub mod PlaceReports
+pub mod Starts
+pub mod ViewParts
+pub mod Upward
+pub mod Gathered
+pub mod MedianReports
+pub mod Counted
+pub mod StayLabels
+pub mod OneTraces
+pub mod VisitReports

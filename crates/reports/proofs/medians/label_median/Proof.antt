@@ -1,0 +1,50 @@
+-- `reports::medians::label_median` meets its contract.
+use mathlib.Core.Path.{_∙_}
+use lib.ListN.{length}
+use Rattle.float.specs.Binary64.{zero64}
+use Rattle.infostop.proofs.Arrays.{array, array-part, array-room}
+use Rattle.reports.proofs.Gathered.{gathered-median}
+use borrow.Author.Needs.{needs}
+use Rattle.reports.proofs.medians.label_median.Statement.{statement}
+use Rattle.reports.proofs.medians.label_median.Tie as tie
+
+sub-gather : tie.Need-sub-gather
+sub-gather c = search needs
+
+part-group-start : tie.Need-part-group-start
+part-group-start c = search needs
+
+part-group-end : tie.Need-part-group-end
+part-group-end c = search needs
+
+gather-requires : tie.Need-gather-requires
+gather-requires c κs = search needs
+
+sub-median : tie.Need-sub-median
+sub-median c = search needs
+
+part-median-start : tie.Need-part-median-start
+part-median-start c = search needs
+
+part-median-end : tie.Need-part-median-end
+part-median-end c = array-room zero64 (length (c .before .before .before .before .before .args .labels .now)) (c .before .before .gather .result) (c .before .before .gather .last .1 .1 .1 .0) (c .before .before .before .before .before .pre .1) (c .before .before .gather .kept .1 .1 .1 .0) (c .before .before .gather .ensures .0)
+
+median-requires : tie.Need-median-requires
+median-requires c κs = search needs
+
+returns : tie.Need-returns
+returns c = gathered-median (c .before .before .before .before .before .before .before .args .l) (c .before .before .before .before .before .before .before .args .labels .now) (c .before .before .before .before .before .before .before .args .vs .now) (c .before .before .before .before .gather .last .1 .1 .1 .0) (array zero64) (length (c .before .before .before .before .before .before .before .args .labels .now)) (c .before .before .before .before .gather .result) (c .before .before .before .before .gather .kept .1 .1 .1 .0 ∙ array-part zero64 _ (c .before .before .before .before .before .before .before .pre .1)) (c .before .before .before .before .gather .ensures .0) (c .before .before .before .before .gather .ensures .1) (c .median .ensures)
+
+pub label-median-spec : {M : Type 1} → statement M
+label-median-spec =
+    tie.close
+    (tie.spec
+    sub-gather
+    part-group-start
+    part-group-end
+    gather-requires
+    sub-median
+    part-median-start
+    part-median-end
+    median-requires
+    returns)

@@ -1,0 +1,92 @@
+-- `reports::view::trace_view` meets its contract.
+use mathlib.Core.Path.{sym, _∙_}
+use Prim.Native.Nat.{_+_, _≤_, _<_}
+use native.Mathlib.Omega.{arith}
+use lib.ListN.{length, getD}
+use Rattle.reports.proofs.ViewParts.{view-inside, view-total, view-end, view-refused, view-given}
+use borrow.Author.Needs.{needs}
+use Rattle.reports.proofs.view.trace_view.Statement.{statement}
+use Rattle.reports.proofs.view.trace_view.Tie as tie
+
+inside : (c : tie.After-enum-told) → c .before .before .before .before .args .trace < length (c .before .before .before .before .args .lens .now)
+inside c = view-inside (c .before .before .before .before .args .lens .now) (length (c .before .before .before .before .args .labels .now)) (c .before .before .before .before .args .trace) (sym (c .before .before .check-view .ensures) ∙ c .enum-told .given .1)
+
+ends : (c : tie.After-shared-slice-known2) → c .before .trace-start .result + getD (c .before .before .before .before .before .before .args .lens .now) (c .before .before .before .before .before .before .args .trace) 0 ≤ length (c .before .before .before .before .before .before .args .labels .now)
+ends c = omega (arith, c .before .trace-start .ensures, view-end (c .before .before .before .before .before .before .args .lens .now) (length (c .before .before .before .before .before .before .args .labels .now)) (c .before .before .before .before .before .before .args .trace) (sym (c .before .before .before .before .check-view .ensures) ∙ c .before .before .enum-told .given .1))
+
+check-view-requires : tie.Need-check-view-requires
+check-view-requires c κs = search needs
+
+enum-known-c : tie.Need-enum-known-c
+enum-known-c c = search needs
+
+number-requires : tie.Need-number-requires
+number-requires c κs = search needs
+
+sub-result : tie.Need-sub-result
+sub-result c = search needs
+
+part-result-start : tie.Need-part-result-start
+part-result-start c = search needs
+
+part-result-end : tie.Need-part-result-end
+part-result-end c = search needs
+
+returns : tie.Need-returns
+returns c = view-refused (c .before .before .before .before .before .before .before .args .lens .now) (c .before .before .before .before .before .before .before .args .trace) (c .before .before .before .before .before .before .before .args .labels .now) _ (c .before .before .before .before .before .check-view .ensures) _ _ (c .before .before .before .c .given .1) (c .before .number .ensures)
+
+enum-told : tie.Need-enum-told
+enum-told c = search needs
+
+trace-start-requires : tie.Need-trace-start-requires
+trace-start-requires c κs = (omega (arith, inside c), omega (arith, view-total (c .before .before .before .before .args .lens .now) (length (c .before .before .before .before .args .labels .now)) (c .before .before .before .before .args .trace) (sym (c .before .before .check-view .ensures) ∙ c .enum-told .given .1)))
+
+mul-end : tie.Need-mul-end
+mul-end c = omega (arith, inside (c .before))
+
+shared-slice-read-end : tie.Need-shared-slice-read-end
+shared-slice-read-end c = omega (arith, inside (c .before .before))
+
+cast-end : tie.Need-cast-end
+cast-end c = omega (arith, c .shared-slice-known2 .given (c .before .before .before .before .before .before .args .trace))
+
+add-end : tie.Need-add-end
+add-end c = omega (arith, ends c)
+
+mul-result : tie.Need-mul-result
+mul-result c = omega (arith, ends c)
+
+sub-result-2 : tie.Need-sub-result-2
+sub-result-2 c = search needs
+
+part-result-start-2 : tie.Need-part-result-start-2
+part-result-start-2 c = search needs
+
+part-result-end-2 : tie.Need-part-result-end-2
+part-result-end-2 c = omega (arith, ends c)
+
+returns-2 : tie.Need-returns-2
+returns-2 c = view-given (c .before .before .before .before .before .before .before .args .lens .now) (c .before .before .before .before .before .before .before .args .trace) (c .before .before .before .before .before .before .before .args .labels .now) _ (c .before .before .before .before .before .check-view .ensures) _ (c .before .before .before .enum-told .given .1) (c .before .before .trace-start .ensures)
+
+pub trace-view-spec : {M : Type 1} → statement M
+trace-view-spec =
+    tie.close
+    (tie.spec
+    check-view-requires
+    enum-known-c
+    number-requires
+    sub-result
+    part-result-start
+    part-result-end
+    returns
+    enum-told
+    trace-start-requires
+    mul-end
+    shared-slice-read-end
+    cast-end
+    add-end
+    mul-result
+    sub-result-2
+    part-result-start-2
+    part-result-end-2
+    returns-2)

@@ -1,0 +1,8 @@
+// What a report hands back.
+use tracks::refusal::Refusal;
+
+// How many items the report has, or the refusal.
+pub enum Reported {
+    Count(usize),
+    Refused(Refusal),
+}

@@ -1,0 +1,35 @@
+// The trace view: the labels of one trace, handed back as that part of the caller's label slice.
+use tracks::refusal::Checked;
+use tracks::refusal::Refusal;
+ghost use mathlib.Core.Path.{_≡_};
+ghost use lib.ListN.{length};
+ghost use Rattle.reports.specs.View.{checkView, traceView, refusalNumber};
+
+// 7, 8, then 21. `labels` is the length of the label slice.
+pub fn check_view(lens: &[u32], labels: usize, trace: usize) -> Checked
+    ensures { λ r. ⌜ r ≡ checkView (now (lens .entry)) labels trace ⌝ }
+{
+    let a = tracks::check_label_lengths(lens, labels);
+    if tracks::refusal::is_refused(a) {
+        return a;
+    }
+    if lens.len() <= trace {
+        return Checked::Refused(Refusal::Output);
+    }
+    Checked::Accepted
+}
+
+// The labels of a trace. The number of the refusal is put into `refusal`, 0 where there is none; a refusal's part is empty.
+pub fn trace_view<'a>(lens: &[u32], labels: &'a [i32], trace: usize, refusal: &mut u32) -> &'a [i32]
+    ensures { λ r. ⌜ (now r ≡ traceView (now (lens .entry)) trace (now (labels .entry))) × (now (refusal .exit) ≡ refusalNumber (checkView (now (lens .entry)) (length (now (labels .entry))) trace)) ⌝ }
+{
+    let c = check_view(lens, labels.len(), trace);
+    if let Checked::Refused(e) = c {
+        *refusal = tracks::refusal::number(e);
+        return &labels[0..0];
+    }
+    *refusal = 0;
+    let from = crate::checks::trace_start(lens, trace);
+    let end = from + lens[trace] as usize;
+    &labels[from..end]
+}
