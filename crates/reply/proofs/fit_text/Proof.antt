@@ -1,0 +1,158 @@
+-- `reply::fit_text` meets its contract.
+use Rattle.reply.proofs.Answers.{labels-room, refused-writes, labelled-writes}
+use borrow.Author.Needs.{needs}
+use Rattle.reply.proofs.fit_text.Statement.{statement}
+use Rattle.reply.proofs.fit_text.Tie as tie
+
+from-config-requires : tie.Need-from-config-requires
+from-config-requires c κs = search needs
+
+sub-fit-predict-many : tie.Need-sub-fit-predict-many
+sub-fit-predict-many c = search needs
+
+part-fit-predict-many-start : tie.Need-part-fit-predict-many-start
+part-fit-predict-many-start c = search needs
+
+part-fit-predict-many-end : tie.Need-part-fit-predict-many-end
+part-fit-predict-many-end c = search needs
+
+sub-fit-predict-many-2 : tie.Need-sub-fit-predict-many-2
+sub-fit-predict-many-2 c = search needs
+
+part-fit-predict-many-start-2 : tie.Need-part-fit-predict-many-start-2
+part-fit-predict-many-start-2 c = search needs
+
+part-fit-predict-many-end-2 : tie.Need-part-fit-predict-many-end-2
+part-fit-predict-many-end-2 c = search needs
+
+sub-fit-predict-many-3 : tie.Need-sub-fit-predict-many-3
+sub-fit-predict-many-3 c = search needs
+
+part-fit-predict-many-start-3 : tie.Need-part-fit-predict-many-start-3
+part-fit-predict-many-start-3 c = search needs
+
+part-fit-predict-many-end-3 : tie.Need-part-fit-predict-many-end-3
+part-fit-predict-many-end-3 c = search needs
+
+sub-fit-predict-many-4 : tie.Need-sub-fit-predict-many-4
+sub-fit-predict-many-4 c = search needs
+
+part-fit-predict-many-start-4 : tie.Need-part-fit-predict-many-start-4
+part-fit-predict-many-start-4 c = search needs
+
+part-fit-predict-many-end-4 : tie.Need-part-fit-predict-many-end-4
+part-fit-predict-many-end-4 c = search needs
+
+sub-fit-predict-many-5 : tie.Need-sub-fit-predict-many-5
+sub-fit-predict-many-5 c = search needs
+
+part-fit-predict-many-start-5 : tie.Need-part-fit-predict-many-start-5
+part-fit-predict-many-start-5 c = search needs
+
+part-fit-predict-many-end-5 : tie.Need-part-fit-predict-many-end-5
+part-fit-predict-many-end-5 c = search needs
+
+sub-fit-predict-many-6 : tie.Need-sub-fit-predict-many-6
+sub-fit-predict-many-6 c = search needs
+
+part-labels-start : tie.Need-part-labels-start
+part-labels-start c = search needs
+
+part-labels-end : tie.Need-part-labels-end
+part-labels-end c = search needs
+
+slice-aggregate-fit-predict-many : tie.Need-slice-aggregate-fit-predict-many
+slice-aggregate-fit-predict-many c = search needs
+
+slice-aggregate-fit-predict-many-2 : tie.Need-slice-aggregate-fit-predict-many-2
+slice-aggregate-fit-predict-many-2 c = search needs
+
+fit-predict-many-requires : tie.Need-fit-predict-many-requires
+fit-predict-many-requires c κs = search needs
+
+enum-told : tie.Need-enum-told
+enum-told c = search needs
+
+sub-print-labels : tie.Need-sub-print-labels
+sub-print-labels c = search needs
+
+part-print-labels-start : tie.Need-part-print-labels-start
+part-print-labels-start c = search needs
+
+part-print-labels-end : tie.Need-part-print-labels-end
+part-print-labels-end c = c .before .before .before .before .before .before .before .before .before .before .before .before .before .before .before .before .before .before .before .before .before .before .pre .5
+
+sub-print-labels-2 : tie.Need-sub-print-labels-2
+sub-print-labels-2 c = search needs
+
+part-print-labels-start-2 : tie.Need-part-print-labels-start-2
+part-print-labels-start-2 c = search needs
+
+part-print-labels-end-2 : tie.Need-part-print-labels-end-2
+part-print-labels-end-2 c = labels-room (c .before .before .before .before .before .before .before .before .before .before .before .before .before .before .before .before .before .before .before .before .before .before .before .before .args .input .fixes) (c .before .before .before .before .before .before .before .fit-predict-many .last .1 .1 .1 .1 .1 .1 .0) (c .before .before .before .before .before .before .before .before .before .before .before .before .before .before .before .before .before .before .before .before .before .before .before .before .pre .0) (c .before .before .before .before .before .before .before .fit-predict-many .kept .1 .1 .1 .1 .1 .1 .0)
+
+print-labels-requires : tie.Need-print-labels-requires
+print-labels-requires c κs = search needs
+
+enum-known-a : tie.Need-enum-known-a
+enum-known-a c = search needs
+
+print-refusal-requires : tie.Need-print-refusal-requires
+print-refusal-requires c κs = search needs
+
+same-length : tie.Need-same-length
+same-length c = search needs
+
+returns : tie.Need-returns
+returns c =
+    let a = c .before .before .before .before .before .before .before .before .before .before .before .before .before .before .before .before .before .before .before .before .before .before .before .before .before .before .before .before .before .args in
+    labelled-writes (a .input) (a .xs .now) (a .ys .now) (a .times .now) (a .marks .now) (a .lens .now) (c .before .before .before .before .before .before .before .before .before .before .before .before .before .before .before .before .before .before .before .before .before .before .before .before .before .before .before .before .before .pre .0) (c .before .before .before .before .before .before .before .before .before .before .before .before .before .before .before .before .before .before .before .before .before .before .from-config .result) (c .before .before .before .before .before .before .before .before .before .before .before .before .before .before .before .before .before .before .before .before .before .before .from-config .ensures) (c .before .before .before .before .before .before .before .before .before .before .before .before .fit-predict-many .result) (c .before .before .before .before .before .before .before .before .before .before .before .before .fit-predict-many .last .1 .1 .1 .1 .1 .1 .0) (c .before .before .before .before .before .before .before .before .before .before .before .before .fit-predict-many .ensures .0) _ _ _ (c .before .before .before .before .before .before .before .before .before .before .before .before .fit-predict-many .kept .1 .1 .1 .1 .1 .1 .0) _ _ (c .before .before .before .before .before .before .before .enum-told .given .1) (c .before .before .print-labels .ensures)
+
+same-length-2 : tie.Need-same-length-2
+same-length-2 c = search needs
+
+returns-2 : tie.Need-returns-2
+returns-2 c =
+    let a = c .before .before .before .before .before .before .before .before .before .before .before .before .before .before .before .before .before .before .before .before .before .before .before .before .before .before .before .args in
+    refused-writes (a .input) (a .xs .now) (a .ys .now) (a .times .now) (a .marks .now) (a .lens .now) (c .before .before .before .before .before .before .before .before .before .before .before .before .before .before .before .before .before .before .before .before .before .before .before .before .before .before .before .pre .0) (c .before .before .before .before .before .before .before .before .before .before .before .before .before .before .before .before .before .before .before .before .from-config .result) (c .before .before .before .before .before .before .before .before .before .before .before .before .before .before .before .before .before .before .before .before .from-config .ensures) (c .before .before .before .before .before .before .before .before .before .before .fit-predict-many .result) (c .before .before .before .before .before .before .before .before .before .before .fit-predict-many .last .1 .1 .1 .1 .1 .1 .0) (c .before .before .before .before .before .before .before .before .before .before .fit-predict-many .ensures .0) _ _ _ _ (c .before .before .before .before .before .a .given .1) (c .before .before .print-refusal .ensures)
+
+pub fit-text-spec : {M : Type 1} → statement M
+fit-text-spec =
+    tie.close
+    (tie.spec
+    from-config-requires
+    sub-fit-predict-many
+    part-fit-predict-many-start
+    part-fit-predict-many-end
+    sub-fit-predict-many-2
+    part-fit-predict-many-start-2
+    part-fit-predict-many-end-2
+    sub-fit-predict-many-3
+    part-fit-predict-many-start-3
+    part-fit-predict-many-end-3
+    sub-fit-predict-many-4
+    part-fit-predict-many-start-4
+    part-fit-predict-many-end-4
+    sub-fit-predict-many-5
+    part-fit-predict-many-start-5
+    part-fit-predict-many-end-5
+    sub-fit-predict-many-6
+    part-labels-start
+    part-labels-end
+    slice-aggregate-fit-predict-many
+    slice-aggregate-fit-predict-many-2
+    fit-predict-many-requires
+    enum-told
+    sub-print-labels
+    part-print-labels-start
+    part-print-labels-end
+    sub-print-labels-2
+    part-print-labels-start-2
+    part-print-labels-end-2
+    print-labels-requires
+    enum-known-a
+    print-refusal-requires
+    same-length
+    returns
+    same-length-2
+    returns-2)

@@ -1,0 +1,90 @@
+// From a text in the house form to the text of the answer: parser, fit and printer together.
+use infostop::answer::Answer;
+use infostop::model::Infostop;
+use text::Input;
+use text::Parsed;
+ghost use mathlib.Core.List.{List};
+ghost use Prim.Native.Nat.{ℕ, _≤_};
+ghost use lib.ListN.{length, take};
+ghost use Rattle.fit.specs.Fit.{fit};
+ghost use Rattle.print.specs.Written.{Writes};
+ghost use Rattle.reply.specs.Program.{outcomeText, programText, FromText};
+
+// The fit of the first fixes and traces of the columns, and its answer as a text.
+fn fit_text(
+    input: Input,
+    xs: &[f64],
+    ys: &[f64],
+    times: &[f64],
+    marks: &[u8],
+    lens: &[u32],
+    out: &mut [u8],
+) -> usize
+    requires { ⌜ (input .fixes ≤ 768) × (input .fixes ≤ length (now xs)) × (input .fixes ≤ length (now ys)) × (input .fixes ≤ length (now times)) × (input .fixes ≤ length (now marks)) × (input .traces ≤ length (now lens)) ⌝ }
+    ensures { λ r. ⌜ Writes (outcomeText (take (input .traces) (now (lens .entry))) (fit (input .config) (take (input .fixes) (now (xs .entry))) (take (input .fixes) (now (ys .entry))) (take (input .fixes) (now (times .entry))) (take (input .fixes) (now (marks .entry))) (take (input .traces) (now (lens .entry))) (input .fixes) 64 7168 3584)) (now (out .entry)) r (now (out .exit)) ⌝ }
+{
+    let n = input.fixes;
+    let k = input.traces;
+    let made = Infostop::from_config(input.config);
+    let model = made.model;
+    let mut labels = [-1i32; 768];
+    let mut floats = [0.0; 7168];
+    let mut words = [0i32; 3584];
+    let f = model.fit_predict_many(
+        &xs[0..n],
+        &ys[0..n],
+        &times[0..n],
+        &marks[0..n],
+        &lens[0..k],
+        &mut labels[0..n],
+        64,
+        &mut floats,
+        &mut words,
+    );
+    let a = f.answer;
+    match a {
+        Answer::Labelled(_, _) => print::print_labels(&lens[0..k], &labels[0..n], out),
+        Answer::Refused(e) => print::print_refusal(e, out),
+    }
+}
+
+// The answer to what was read, as a text.
+pub fn answer(
+    p: Parsed,
+    xs: &[f64],
+    ys: &[f64],
+    times: &[f64],
+    marks: &[u8],
+    lens: &[u32],
+    out: &mut [u8],
+) -> usize
+    requires { ⌜ ((t : List ℕ) × FromText t p (now xs) (now ys) (now times) (now marks) (now lens)) ⌝ }
+    ensures { λ r. ⌜ ((t : List ℕ) → FromText t p (now (xs .entry)) (now (ys .entry)) (now (times .entry)) (now (marks .entry)) (now (lens .entry)) → Writes (programText t) (now (out .entry)) r (now (out .exit))) ⌝ }
+{
+    match p {
+        Parsed::Refused(e) => print::print_refusal(e, out),
+        Parsed::Tracks(input) => fit_text(input, xs, ys, times, marks, lens, out),
+    }
+}
+
+// The answer to a text.
+pub fn reply(text: &[u8], out: &mut [u8]) -> usize
+    ensures { λ r. ⌜ Writes (programText (now (text .entry))) (now (out .entry)) r (now (out .exit)) ⌝ }
+{
+    let mut xs = [0.0; 768];
+    let mut ys = [0.0; 768];
+    let mut times = [0.0; 768];
+    let mut marks = [0u8; 768];
+    let mut lens = [0u32; 768];
+    let r = text::feed(
+        text::start(),
+        text,
+        &mut xs,
+        &mut ys,
+        &mut times,
+        &mut marks,
+        &mut lens,
+    );
+    let p = text::finish(r);
+    answer(p, &xs, &ys, &times, &marks, &lens, out)
+}
