@@ -6,7 +6,7 @@ use Prim.Native.Nat.{ℕ, zero, suc, _+_, _≤_}
 use native.Mathlib.Omega.{arith}
 use borrow.Author.Tests.{ltb-false}
 use lib.Dec.{ltb}
-use lib.ListN.{length, take, replicate, length-replicate, length-map}
+use lib.ListN.{length, take, replicate, length-replicate, length-map, length-take}
 use lib.Seq.{take-all}
 use lib.Ieee.{Float}
 use Rattle.lists.specs.Lists.{overlay}
@@ -68,9 +68,15 @@ first-all ls h = take-all 768 ls h
 
 -- ---- the answer
 
-pub from-fed : (t : List ℕ) (r : Reader) (xs ys times : List Float) (marks lens : List ℕ) → Fed (replicate 768 zero64) (replicate 768 zero64) (replicate 768 zero64) (replicate 768 0) (replicate 768 0) t r xs ys times marks lens
-    → FromText t (finished r) xs ys times marks lens
-from-fed t r xs ys times marks lens f = fed-read (replicate 768 zero64) (replicate 768 zero64) (replicate 768 zero64) (replicate 768 0) (replicate 768 0) t r xs ys times marks lens f
+-- What was fed, in whatever pieces, and finished.
+pub from-fed : (t : List ℕ) {r : Reader} {p : Parsed} {xs ys times : List Float} {marks lens : List ℕ} → Fed (replicate 768 zero64) (replicate 768 zero64) (replicate 768 zero64) (replicate 768 0) (replicate 768 0) t r xs ys times marks lens
+    → p ≡ finished r → FromText t p xs ys times marks lens
+from-fed t {r} {p} {xs} {ys} {times} {marks} {lens} f q =
+    subst (λ (z : Parsed). FromText t z xs ys times marks lens) (sym q)
+    (fed-read (replicate 768 zero64) (replicate 768 zero64) (replicate 768 zero64) (replicate 768 0) (replicate 768 0) t r xs ys times marks lens f)
+
+pub writes-few : {t out out' : List ℕ} {r : ℕ} → Writes t out r out' → r ≤ length out
+writes-few {t} {out} w = omega (arith, w .count, length-take (length out) t)
 
 pub writes-as : {t u out out' : List ℕ} {r : ℕ} → t ≡ u → Writes t out r out' → Writes u out r out'
 writes-as {t} {u} {out} {out'} {r} e w = subst (λ (z : List ℕ). Writes z out r out') e w
@@ -78,8 +84,7 @@ writes-as {t} {u} {out} {out'} {r} e w = subst (λ (z : List ℕ). Writes z out 
 -- What was fed in one piece, and finished.
 pub from-text : (t : List ℕ) {s r : Reader} {p : Parsed} {xs ys times : List Float} {marks lens : List ℕ} → s ≡ startReader
     → holding r xs ys times marks lens ≡ run (holding s (replicate 768 zero64) (replicate 768 zero64) (replicate 768 zero64) (replicate 768 0) (replicate 768 0)) t → p ≡ finished r → FromText t p xs ys times marks lens
-from-text t {s} {r} {p} {xs} {ys} {times} {marks} {lens} e f q =
-    subst (λ (z : Parsed). FromText t z xs ys times marks lens) (sym q) (from-fed t r xs ys times marks lens (fed-whole e f))
+from-text t e f q = from-fed t (fed-whole e f) q
 
 not-both : {A : Type 0} (i : Input) (e : Refusal) → Tracks i ≡ Refused e → A
 not-both i e q = absurd (let z : _≡_ {A = ℕ} 0 1 = cc in omega arith)

@@ -1,0 +1,108 @@
+-- `stops::feed_all` meets its contract. The invariant: some text was fed so far.
+use mathlib.Core.Path.{_≡_, refl, sym, _∙_, subst}
+use mathlib.Core.List.{List, [], _++_}
+use Prim.Native.Nat.{ℕ}
+use native.Mathlib.Omega.{arith}
+use lib.ListN.{length}
+use lib.Ieee.{Float}
+use Rattle.text.specs.declared.Reader.{Reader}
+use Rattle.text.specs.Pieces.{startReader, Fed}
+use Rattle.text.proofs.Pieces.{fed-start, fed-more}
+use borrow.Author.Needs.{needs}
+use Rattle.stops.proofs.feed_all.Statement.{statement}
+use Rattle.stops.proofs.feed_all.Tie as tie
+
+abbrev Inv-loop : tie.InvT-loop
+Inv-loop xs₀ ys₀ times₀ marks₀ lens₀ r₀ turns₀ xs ys times marks lens r turns = ((t : List ℕ) × Fed xs₀ ys₀ times₀ marks₀ lens₀ t r xs ys times marks lens) × (length xs ≡ length xs₀) × (length ys ≡ length ys₀) × (length times ≡ length times₀) × (length marks ≡ length marks₀) × (length lens ≡ length lens₀)
+
+abbrev μ-loop : tie.MeasureT-loop
+μ-loop xs₀ ys₀ times₀ marks₀ lens₀ r₀ turns₀ xs ys times marks lens r turns = turns
+
+start-requires : tie.Need-start-requires Inv-loop μ-loop
+start-requires c κs = search needs
+
+started : {s : Reader} (xs ys times : List Float) (marks lens : List ℕ) → s ≡ startReader → Fed xs ys times marks lens [] s xs ys times marks lens
+started xs ys times marks lens e = subst (λ (z : Reader). Fed xs ys times marks lens [] z xs ys times marks lens) (sym e) fed-start
+
+loop-holds : tie.Need-loop-holds Inv-loop μ-loop
+loop-holds c = (([], started _ _ _ _ _ (c .start .ensures)), refl, refl, refl, refl, refl)
+
+feed-some-requires : tie.Need-feed-some-requires Inv-loop μ-loop
+feed-some-requires c κs = search needs
+
+same-length : tie.Need-same-length Inv-loop μ-loop
+same-length c = c .before .before .before .before .before .before .before .before .before .before .before .before .before .feed-some .kept .1 .0 ∙ c .before .before .before .before .before .before .before .before .before .before .before .before .before .before .before .before .before .before .before .before .loop .inv .1
+
+same-length-2 : tie.Need-same-length-2 Inv-loop μ-loop
+same-length-2 c = c .before .before .before .before .before .before .before .before .before .before .before .before .before .feed-some .kept .1 .1 .0 ∙ c .before .before .before .before .before .before .before .before .before .before .before .before .before .before .before .before .before .before .before .before .loop .inv .2
+
+same-length-3 : tie.Need-same-length-3 Inv-loop μ-loop
+same-length-3 c = c .before .before .before .before .before .before .before .before .before .before .before .before .before .feed-some .kept .1 .1 .1 .0 ∙ c .before .before .before .before .before .before .before .before .before .before .before .before .before .before .before .before .before .before .before .before .loop .inv .3
+
+same-length-4 : tie.Need-same-length-4 Inv-loop μ-loop
+same-length-4 c = c .before .before .before .before .before .before .before .before .before .before .before .before .before .feed-some .kept .1 .1 .1 .1 .0 ∙ c .before .before .before .before .before .before .before .before .before .before .before .before .before .before .before .before .before .before .before .before .loop .inv .4
+
+same-length-5 : tie.Need-same-length-5 Inv-loop μ-loop
+same-length-5 c = c .before .before .before .before .before .before .before .before .before .before .before .before .before .feed-some .kept .1 .1 .1 .1 .1 .0 ∙ c .before .before .before .before .before .before .before .before .before .before .before .before .before .before .before .before .before .before .before .before .loop .inv .5
+
+returns : tie.Need-returns Inv-loop μ-loop
+returns c =
+    let v = c .before .before .before .before .before .before .before .before .before .before .before .before .before .before .before .before .before .before .before .before .loop .inv in
+    let u = c .before .before .before .before .before .before .before .before .before .before .before .before .before .feed-some .ensures in
+    (v .0 .0 ++ u .0, fed-more (u .0) (v .0 .1) (u .1))
+
+sub-turns : tie.Need-sub-turns Inv-loop μ-loop
+sub-turns c = search needs
+
+loop-less : tie.Need-loop-less Inv-loop μ-loop
+loop-less c = omega arith
+
+loop-again : tie.Need-loop-again Inv-loop μ-loop
+loop-again c =
+    let v = c .before .before .before .before .before .before .before .before .before .before .before .before .before .before .before .before .before .before .before .before .loop .inv in
+    let u = c .before .before .before .before .before .before .before .before .before .before .before .before .before .feed-some .ensures in
+    let k = c .before .before .before .before .before .before .before .before .before .before .before .before .before .feed-some .kept in
+    ((v .0 .0 ++ u .0, fed-more (u .0) (v .0 .1) (u .1)), k .1 .0 ∙ v .1, k .1 .1 .0 ∙ v .2, k .1 .1 .1 .0 ∙ v .3, k .1 .1 .1 .1 .0 ∙ v .4, k .1 .1 .1 .1 .1 .0 ∙ v .5)
+
+same-length-6 : tie.Need-same-length-6 Inv-loop μ-loop
+same-length-6 c = c .before .loop .inv .1
+
+same-length-7 : tie.Need-same-length-7 Inv-loop μ-loop
+same-length-7 c = c .before .loop .inv .2
+
+same-length-8 : tie.Need-same-length-8 Inv-loop μ-loop
+same-length-8 c = c .before .loop .inv .3
+
+same-length-9 : tie.Need-same-length-9 Inv-loop μ-loop
+same-length-9 c = c .before .loop .inv .4
+
+same-length-10 : tie.Need-same-length-10 Inv-loop μ-loop
+same-length-10 c = c .before .loop .inv .5
+
+returns-2 : tie.Need-returns-2 Inv-loop μ-loop
+returns-2 c = c .before .loop .inv .0
+
+pub feed-all-spec : {M : Type 1} → statement M
+feed-all-spec =
+    tie.close
+    (tie.spec
+    Inv-loop
+    μ-loop
+    start-requires
+    loop-holds
+    feed-some-requires
+    same-length
+    same-length-2
+    same-length-3
+    same-length-4
+    same-length-5
+    returns
+    sub-turns
+    loop-less
+    loop-again
+    same-length-6
+    same-length-7
+    same-length-8
+    same-length-9
+    same-length-10
+    returns-2)
