@@ -13,7 +13,6 @@ use lib.Dec.{T}
 use lib.Signed.{leZ, nonNeg}
 use mir.Syntax.{w32, w64}
 use mir.Val.{Fits, SFits}
-use Rattle.print.specs.Facts
 use Rattle.print.specs.Lines.{decimal, isNumber, labelText, line, traceLines, lines}
 use Rattle.print.specs.Written.{Out, pushes}
 use Rattle.print.proofs.Pushes.{and-then}
