@@ -12,6 +12,7 @@ use Rattle.text.specs.Values.{FixLine, inside, read, withFix, lengthsFrom, leng
 use Rattle.text.proofs.Lengths.{with-next, with-last}
 use Rattle.text.proofs.Pieces.{rises}
 use Rattle.tracks.specs.declared.config.Config.{Config}
+use Rattle.print.specs.Facts
 use Rattle.print.specs.Lines.{line, traceLines, lines, labelNames, labelsText}
 use Rattle.print.specs.InOrder.{inOrder}
 

@@ -47,8 +47,8 @@ unfoldable pub tracesFrom : ℕ → List FixLine → ℕ
 tracesFrom n [] = n
 tracesFrom n (p ∷ ps) = tracesFrom (p .trace + 1) ps
 
--- The machine n after the fixes ps, from the machine m at the state s.
-pub record Holds (m : Machine) (s : State) (ps : List FixLine) (n : Machine) : Type 0 where
+-- The machine n after the fixes ps, from the machine m at the state s. Its settings have the sizes z and the signs g.
+pub record Held (m : Machine) (s : State) (ps : List FixLine) (z g : ℕ → ℕ) (n : Machine) : Type 0 where
   pub xs : n .xs ≡ note (λ p. p .x) (m .xs) (s .fixes) ps
   pub ys : n .ys ≡ note (λ p. p .y) (m .ys) (s .fixes) ps
   pub times : n .times ≡ note (λ p. timeValue (p .time)) (m .times) (s .fixes) ps
@@ -57,8 +57,16 @@ pub record Holds (m : Machine) (s : State) (ps : List FixLine) (n : Machine) : T
   pub fixes : n .at .fixes ≡ countFrom (s .fixes) ps
   pub traces : n .at .traces ≡ tracesFrom (s .traces) ps
   pub rising : Rising (s .traces) ps
-  pub sizes : (i : ℕ) → i < 7 → getD (n .sizes) i 0 ≡ getD (m .sizes) i 0
-  pub signs : (i : ℕ) → i < 7 → getD (n .signs) i 0 ≡ getD (m .signs) i 0
+  pub sizes : (i : ℕ) → i < 7 → getD (n .sizes) i 0 ≡ z i
+  pub signs : (i : ℕ) → i < 7 → getD (n .signs) i 0 ≡ g i
+
+-- With the settings of m.
+abbrev Holds : Machine → State → List FixLine → Machine → Type 0
+Holds m s ps n = Held m s ps (λ i. getD (m .sizes) i 0) (λ i. getD (m .signs) i 0) n
+
+-- With the settings f.
+abbrev pub Contents : Machine → State → List Field → List FixLine → Machine → Type 0
+Contents m s f ps n = Held m s ps (λ i. sizeOf (getD f i bad)) (λ i. signOf (getD f i bad)) n
 
 -- ---- one fix
 
@@ -204,19 +212,6 @@ fixes-kept (suc l) [] m s h z y = holds-none m s
 fixes-kept (suc l) (b ∷ t) m s h z y = line-kept l (fixes-kept l) (b ∷ t) m s h z y (rowOf fixEnds (b ∷ t)) (fix-row (b ∷ t) m s) (fix-sound (b ∷ t))
 
 -- ---- the settings before them
-
--- The machine n holds the settings f, and the fixes ps as above.
-pub record Contents (m : Machine) (s : State) (f : List Field) (ps : List FixLine) (n : Machine) : Type 0 where
-  pub xs : n .xs ≡ note (λ p. p .x) (m .xs) (s .fixes) ps
-  pub ys : n .ys ≡ note (λ p. p .y) (m .ys) (s .fixes) ps
-  pub times : n .times ≡ note (λ p. timeValue (p .time)) (m .times) (s .fixes) ps
-  pub marks : n .marks ≡ note (λ p. timeMark (p .time)) (m .marks) (s .fixes) ps
-  pub lens : n .lens ≡ noteLens (m .lens) (s .fixes) (s .traces) (s .len) ps
-  pub fixes : n .at .fixes ≡ countFrom (s .fixes) ps
-  pub traces : n .at .traces ≡ tracesFrom (s .traces) ps
-  pub rising : Rising (s .traces) ps
-  pub sizes : (i : ℕ) → i < 7 → getD (n .sizes) i 0 ≡ sizeOf (getD f i bad)
-  pub signs : (i : ℕ) → i < 7 → getD (n .signs) i 0 ≡ signOf (getD f i bad)
 
 Rest-kept : Machine → State → List ℕ → Lines → Type 0
 Rest-kept m s t noLines = Unit

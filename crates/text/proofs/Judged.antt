@@ -55,7 +55,7 @@ unfoldable pub Small : List Field → Type 0
 Small [] = Unit
 Small (F ∷ fs) = (sizeOf F ≤ 1000000000) × Small fs
 
--- N fields, and what follows is shorter by as many bytes at least.
+-- There are n fields, and what follows is shorter by as many bytes at least.
 unfoldable pub Sound : ℕ → List ℕ → Row → Type 0
 Sound n t noRow = Unit
 Sound n t (row fs r) = (length fs ≡ n) × (length r + n ≤ length t) × Small fs

@@ -1,4 +1,4 @@
--- A field linesOf byte by byte is the field that its bytes write: `fieldByte` of `Steps` against `fieldOf` of `Form`.
+-- A field taken byte by byte is the field that its bytes write: `fieldByte` of `Steps` against `fieldOf` of `Fields`.
 use mathlib.Core.Path.{_≡_, refl, sym, ap, subst, _∙_}
 use mathlib.Core.Bool.{Bool, true, false, cond, _&&_, _||_, not}
 use mathlib.Core.List.{List, [], _∷_}
@@ -11,6 +11,7 @@ use mathlib.Core.Logic.{_⊎_, inl, inr}
 use Rattle.text.specs.declared.state.State.{State}
 use Rattle.text.specs.Bytes.{isDigit}
 use Rattle.text.specs.Fields.{Field, number, dash, bad, allDigits, sizeFrom, digitsOf, afterMinus, fieldOf, sizeOf}
+use Rattle.text.specs.Facts
 use Rattle.text.specs.Steps.{refused, begun, signed, grown, fieldByte, fieldSign}
 
 -- The bytes of a field.
@@ -109,13 +110,13 @@ minus-first : (s : State) (b : ℕ) → eqb b 45 ≡ true → s .minus || s .dig
 unfolding fieldByte
 minus-first s b e h = simp (e, h)
 
--- How a field is noted: 0 a number number, 1 a negative one, 2 a minus alone, 3 neither.
+-- How a field is noted: 0 a whole number, 1 a negative one, 2 a minus alone, 3 neither.
 unfoldable pub signOf : Field → ℕ
 signOf (number n v) = cond n 1 0
 signOf dash = 2
 signOf bad = 3
 
--- The state S, after the bytes of the field F, from the initial of field k.
+-- The state S, after the bytes of the field F, from the start of field k.
 pub record Ok (s : State) (g k : ℕ) (F : Field) (S : State) : Type 0 where
   pub sign : fieldSign S ≡ signOf F
   pub size : S .value ≡ sizeOf F
@@ -123,7 +124,7 @@ pub record Ok (s : State) (g k : ℕ) (F : Field) (S : State) : Type 0 where
   pub field : S .k ≡ k
   pub same : (h j : ℕ) → begun S h j ≡ begun s h j
 
--- A field is linesOf as it is written, or the text is refused.
+-- A field is taken as it is written, or the text is refused.
 unfoldable pub Reads : State → ℕ → ℕ → Field → State → Type 0
 Reads s g k F S = Ok s g k F S ⊎ ((F ≡ bad) × (S .stage ≡ 4))
 

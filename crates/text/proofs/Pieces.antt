@@ -30,12 +30,12 @@ use Rattle.text.proofs.Lengths.{traces-counted, lens-noted}
 -- ---- pieces
 
 module _ {xs ys times : List Float} {marks lens : List ℕ} where
-  -- Before the first piece nothing was read.
-  pub fed-start : Fed xs ys times marks lens [] startReader xs ys times marks lens
+  -- `start`: nothing was read.
+  pub fed-start : {r : Reader} → r ≡ startReader → Fed xs ys times marks lens [] r xs ys times marks lens
   unfolding run
-  fed-start = record { fed = refl }
+  fed-start p = record { fed = ap (λ (r : Reader). holding r xs ys times marks lens) p }
 
-  -- `feed` takes the next piece.
+  -- `feed`: the next piece was read too.
   pub fed-more : {t : List ℕ} (u : List ℕ) {r q : Reader} {xs₁ ys₁ times₁ xs₂ ys₂ times₂ : List Float} {marks₁ lens₁ marks₂ lens₂ : List ℕ}
       → Fed xs ys times marks lens t r xs₁ ys₁ times₁ marks₁ lens₁
       → holding q xs₂ ys₂ times₂ marks₂ lens₂ ≡ run (holding r xs₁ ys₁ times₁ marks₁ lens₁) u
@@ -133,6 +133,10 @@ module _ (xs ys times : List Float) (marks lens t : List ℕ) where
             answer = rw (n, e) (w .0);
             columns = λ c. λ ls. λ q. let z : inside (configOf s) (map fixOf l) ≡ inside c ls = rw e at q in let v : map fixOf l ≡ ls = cc in rw (← v) (w .1, w .2, w .3, w .4, w .5);
           }
+
+-- `finish`: the text was read.
+pub fed-end : {xs ys times : List Float} {marks lens t : List ℕ} {r : Reader} {p : Parsed} {xs' ys' times' : List Float} {marks' lens' : List ℕ} → Fed xs ys times marks lens t r xs' ys' times' marks' lens' → p ≡ finished r → ReadAs xs ys times marks lens t p xs' ys' times' marks' lens'
+fed-end {xs} {ys} {times} {marks} {lens} {t} {r} {p} {xs'} {ys'} {times'} {marks'} {lens'} f e = rw e (fed-read xs ys times marks lens t r xs' ys' times' marks' lens' f)
 
 -- The traces of a text rise from 0 without gaps.
 pub rises : (t : List ℕ) (c : Config) (ps : List FixLine) → read t ≡ inside c ps → Rising 0 ps

@@ -36,7 +36,7 @@ settle m t z y =
 unfoldable pub filled : Machine → ℕ → Field → Machine
 filled m k F = record { at = m .at; sizes = set (m .sizes) k (sizeOf F); signs = set (m .signs) k (signOf F); xs = m .xs; ys = m .ys; times = m .times; marks = m .marks; lens = m .lens }
 
--- A line linesOf number.
+-- A line taken whole.
 unfoldable pub finish : ℕ → ℕ → Machine → State → Machine
 finish g last m s = settle m (begun s g (last + 1)) (m .sizes) (m .signs)
 
@@ -90,7 +90,7 @@ module _ (g last : ℕ) (line : Line g last) where
       let w = line .within (refused S) (rw d h) (inr refl) in
       rw p (rw (idle _ _ (refused S) (w .0) (w .1)) refl)
 
-  -- A field: it is linesOf, or the text is refused.
+  -- A field: it is taken, or the text is refused.
   pub Fielded : Machine → State → ℕ → List ℕ → List ℕ → List ℕ → Type 0
   Fielded m s k t f r =
       ((signOf (fieldOf f) ≡ 3 → ⊥) × (run (moved m (begun s g k)) t ≡ run (settle (filled m k (fieldOf f)) (begun s g (after last k)) (filled m k (fieldOf f) .sizes) (filled m k (fieldOf f) .signs)) r))
@@ -107,7 +107,7 @@ module _ (g last : ℕ) (line : Line g last) where
         go o false e = inl (eqb-false _ _ e, T .0 (o .stage) ∙ ap (λ (n : Machine). run n r) (end-step m s k (fieldOf (x ∷ f)) (fieldBytes (begun s g k) (x ∷ f)) o (eqb-false _ _ e)))
         go o true e = inr (eqb-true _ _ e, bad-run (moved m (begun s g k)) (step (moved m (fieldBytes (begun s g k) (x ∷ f))) (endOf last k)) t r (T .0 (o .stage)) (bad-step m k (fieldBytes (begun s g k) (x ∷ f)) (o .stage) (o .field) h (o .sign ∙ eqb-true _ _ e)))
 
--- ---- a number line
+-- ---- a whole line
 
 -- The bytes that end n fields and one more.
 unfoldable pub tail : ℕ → List ℕ

@@ -1,4 +1,4 @@
--- How a loop over the bytes goes on and ends, and what makes one step of the machine.
+-- The machine over a text: how a loop goes on and ends, a text in two parts, and what makes one step.
 use mathlib.Core.Path.{_≡_, refl, ap, _∙_}
 use mathlib.Core.Bool.{Bool, true, false, cond}
 use mathlib.Core.List.{List, [], _∷_, _++_}
@@ -20,7 +20,7 @@ fix-size sizes signs s e = go (leb (getD sizes 7 0) 1000000000) refl where
   go true h = leb-true _ _ h
   go false h = let f : false ≡ true = simp h at e in omega (arith, ap {B = ℕ} (λ (b : Bool). cond b 1 0) f)
 
--- How a loop over the bytes goes on and ends.
+-- A loop over the bytes.
 pub run-on : (m m₁ : Machine) (text : List ℕ) (i : ℕ) {v : Machine} → i < length text → m₁ ≡ step m (getD text i 0) → run m (drop i text) ≡ v → run m₁ (drop (i + 1) text) ≡ v
 unfolding run
 run-on m m₁ text i h e p = ap (λ (n : Machine). run n (drop (i + 1) text)) e ∙ (rw (drop-cons text i 0 h, ← add-one i) at p)

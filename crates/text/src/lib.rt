@@ -85,8 +85,8 @@ pub fn start() -> Reader
     }
 }
 
-// Takes the next piece of a text. The columns of the first 768 fixes go into the slices, as far as there is room. proofs/Pieces.antt: a text in pieces is
-// the text in one piece, and what `finish` then says is what `Values` reads in it.
+// Takes the next piece of a text. The columns of the first 768 fixes go into the slices, as far as there is room. With `fed-start`, `fed-more` and
+// `fed-end` of proofs/Pieces.antt these contracts say of the text, in however many pieces it came, that it was read as `ReadAs` says.
 pub fn feed(
     r: Reader,
     text: &[u8],

@@ -1,5 +1,7 @@
 -- `text::taken` meets its contract.
 use mathlib.Core.Path.{sym, ap, _∙_}
+use Prim.Native.Nat.{_<_, _≤_}
+use native.Mathlib.Omega.{arith}
 use borrow.Author.Tests.{lt-ltb, le-ltb}
 use Rattle.text.specs.Parsed.{tooMany, unlessMany, taken}
 use borrow.Author.Needs.{needs}
@@ -14,11 +16,15 @@ too-many-requires c κs = search needs
 
 returns : tie.Need-returns
 unfolding taken unlessMany
-returns c = c .too-many .ensures ∙ ap tooMany (c .before .check-config .ensures) ∙ sym (rw (lt-ltb _ _ (c .before .before .if1 .taken)))
+returns c =
+    let h : 768 < c .before .before .before .args .n = omega arith in
+    c .too-many .ensures ∙ ap tooMany (c .before .check-config .ensures) ∙ sym (rw (lt-ltb 768 _ h))
 
 returns-2 : tie.Need-returns-2
 unfolding taken unlessMany
-returns-2 c = sym (rw (le-ltb _ _ (c .if1 .left)))
+returns-2 c =
+    let h : c .before .args .n ≤ 768 = omega arith in
+    sym (rw (le-ltb 768 _ h))
 
 pub taken-spec : {M : Type 1} → statement M
 taken-spec = tie.close (tie.spec check-config-requires too-many-requires returns returns-2)
