@@ -10,6 +10,8 @@ use lib.ListN.{length, getD, drop, drop-of-length-le}
 use lib.Seq.{drop-cons}
 use Rattle.reports.specs.Labels.{isLabel}
 use Rattle.reports.specs.Visits.{visitsTo}
+-- Named so that the examples are checked before these lemmas.
+use Rattle.reports.specs.Examples
 
 -- n of those before place i, and what is still to come, are all.
 abbrev pub CountedTo : List ℤ → ℕ → ℕ → ℕ → Type 0

@@ -28,6 +28,8 @@ use Rattle.reports.specs.Reports.{placeCount, modelXs, modelYs, modelLab
 use Rattle.reports.specs.View.{traceStart}
 use Rattle.reports.specs.Visits.{modelPlaces, visitedLabels, traceFixes}
 use Rattle.reports.specs.Steps.{OneTrace, LabelledStays}
+-- Named so that the examples are checked before these lemmas.
+use Rattle.reports.specs.Examples
 use Rattle.reports.proofs.Starts.{start-within}
 use Rattle.reports.proofs.Held.{held-part, held-length}
 
