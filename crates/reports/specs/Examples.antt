@@ -4,7 +4,7 @@ use mathlib.Core.Bool.{true}
 use mathlib.Core.List.{List, [], _∷_}
 use mathlib.Core.Option.{some}
 use Prim.Native.Nat.{ℕ}
-use lib.IntN.{ℤ, pos, negsuc}
+use lib.IntN.{pos, negsuc}
 use lib.Ieee.{Float, binary64, add, mul, ofInt, ofBits, toBits}
 use Rattle.lists.specs.Lists.{from, upto}
 use Rattle.float.specs.Binary64.{whole64, zero64, sameBits}
