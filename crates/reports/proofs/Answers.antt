@@ -1,17 +1,14 @@
 -- What a report hands back and leaves in its output slices, by what its check says.
-use mathlib.Core.Path.{_≡_, refl, sym, ap, _∙_}
-use mathlib.Core.Bool.{Bool, true, false, not}
-use mathlib.Core.List.{List, [], _∷_}
+use mathlib.Core.Path.{_≡_, sym, ap, _∙_}
+use mathlib.Core.Bool.{Bool, false}
+use mathlib.Core.List.{List}
 use Prim.Native.Nat.{ℕ}
-use borrow.Author.Tests.{not-false}
 use Rattle.lists.specs.Lists.{overlay}
 use Rattle.tracks.specs.declared.refusal.Refusal.{Refusal}
-use Rattle.tracks.specs.declared.refusal.Refusal.the-variants.{NotFitted, Output}
+use Rattle.tracks.specs.declared.refusal.Refusal.the-variants.{Output}
 use Rattle.tracks.specs.declared.refusal.Checked.{Checked}
 use Rattle.tracks.specs.declared.refusal.Checked.the-variants.{Accepted, Refused}
-use Rattle.tracks.specs.Checks.{refuseIf, inTurn}
 use Rattle.tracks.proofs.Turns.{passed, turn-first, turn-rest}
-use Rattle.reports.specs.declared.answer.Reported.{Reported}
 use Rattle.reports.specs.declared.answer.Reported.the-variants as reported
 use Rattle.reports.specs.Reports.{checkModel, reportIf, sliceAfter}
 

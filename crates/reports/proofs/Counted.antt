@@ -1,7 +1,7 @@
 -- How many of some labels are l, counted one after the other.
-use mathlib.Core.Path.{_≡_, refl, sym, ap, _∙_}
+use mathlib.Core.Path.{_≡_, sym, ap, _∙_}
 use mathlib.Core.Bool.{Bool, true, false, cond}
-use mathlib.Core.List.{List, [], _∷_}
+use mathlib.Core.List.{List}
 use Prim.Native.Nat.{ℕ, suc, _+_, _<_, _≤_}
 use native.Mathlib.Numerals.{add-one}
 use native.Mathlib.Omega.{arith}
@@ -10,6 +10,8 @@ use lib.ListN.{length, getD, drop, drop-of-length-le}
 use lib.Seq.{drop-cons}
 use Rattle.reports.specs.Labels.{isLabel}
 use Rattle.reports.specs.Visits.{visitsTo}
+-- Named so that the examples are checked before these lemmas.
+use Rattle.reports.specs.Examples
 
 -- n of those before place i, and what is still to come, are all.
 abbrev pub CountedTo : List ℤ → ℕ → ℕ → ℕ → Type 0

@@ -1,7 +1,7 @@
 -- The coordinates of a label's places, taken in one after the other.
 use mathlib.Core.Path.{_≡_, refl, sym, ap, ap₂, _∙_}
 use mathlib.Core.Bool.{Bool, true, false, cond}
-use mathlib.Core.List.{List, [], _∷_, _++_}
+use mathlib.Core.List.{List, _∷_, _++_}
 use Prim.Native.Nat.{ℕ, suc, _+_, _-_, _<_, _≤_}
 use native.Mathlib.Numerals.{add-one}
 use native.Mathlib.Omega.{arith}
@@ -14,6 +14,8 @@ use Rattle.stay.proofs.Ordered.{insert-length, insert-in-order}
 use Rattle.infostop.proofs.Slices.{lent, back, lent-first}
 use Rattle.reports.specs.Labels.{isLabel}
 use Rattle.reports.specs.LabelMedians.{withLabel, labelMedian}
+-- Named so that the examples are checked before these lemmas.
+use Rattle.reports.specs.Examples
 
 -- Behind an insertion the front is one longer.
 pub inserted : (g h : List Float) (n : ℕ) (v : Float) → n < length g → h ≡ insertOrdered v (take n g) ++ drop (n + 1) g → take (n + 1) h ≡ insertOrdered v (take n g)

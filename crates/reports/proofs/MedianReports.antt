@@ -1,6 +1,6 @@
 -- The report of label medians, from what the steps of the code say.
-use mathlib.Core.Path.{_≡_, refl, sym, ap, ap₂, _∙_}
-use mathlib.Core.Bool.{Bool, _||_}
+use mathlib.Core.Path.{_≡_, sym, ap, ap₂, _∙_}
+use mathlib.Core.Bool.{_||_}
 use mathlib.Core.List.{List}
 use Prim.Native.Nat.{ℕ, _≤_}
 use native.Mathlib.Omega.{arith}
@@ -17,7 +17,7 @@ use Rattle.tracks.specs.declared.refusal.Checked.the-variants.{Accepted, Refuse
 use Rattle.infostop.specs.declared.model.Infostop.{Infostop}
 use Rattle.infostop.proofs.Slices.{lent}
 use Rattle.reports.specs.declared.answer.Reported.the-variants as reported
-use Rattle.reports.specs.Reports.{placeCount, modelXs, modelYs, modelLabels, checkModel}
+use Rattle.reports.specs.Reports.{placeCount, modelLabels, checkModel}
 use Rattle.reports.specs.Labels.{labelsIn}
 use Rattle.reports.specs.LabelMedians.{labelMedians, checkMedians, MediansReported}
 use Rattle.reports.proofs.Answers.{no-report, slice-kept, some-report, slice-written, none-lacking}

@@ -1,19 +1,18 @@
 -- One trace of accepted tracks: its parts of the slices, its stays, and the labels that the model gives them.
-use mathlib.Core.Path.{_≡_, refl, sym, ap, ap₂, _∙_, subst}
-use mathlib.Core.List.{List, [], _∷_, _++_, append-nil}
-use Prim.Native.Nat.{ℕ, suc, _+_, _*_, _-_, _<_, _≤_}
-use native.Mathlib.Numerals.{add-one}
+use mathlib.Core.Path.{_≡_, refl, sym, ap, ap₂, _∙_}
+use mathlib.Core.List.{List, [], _∷_, append-nil}
+use Prim.Native.Nat.{ℕ, _+_, _*_, _-_, _<_, _≤_}
 use native.Mathlib.Nat.{add-sub-cancel-left, le-refl}
 use native.Mathlib.Omega.{arith}
 use lib.IntN.{ℤ}
 use lib.ListN.{length, getD, take, drop, replicate, length-replicate}
-use lib.Seq.{drop-cons, take-take, length-take-le}
+use lib.Seq.{drop-cons, take-take}
 use lib.Ieee.{Float}
 use Rattle.distance.specs.Distance.{euclidean}
 use Rattle.stay.specs.declared.StaySettings.{StaySettings}
 use Rattle.stay.specs.Trace.{Fix, fixes}
 use Rattle.stay.specs.Stays.{stayMedians}
-use Rattle.neighbors.specs.Places.{Place, placesIn}
+use Rattle.neighbors.specs.Places.{placesIn}
 use Rattle.tracks.specs.declared.refusal.Checked.the-variants.{Accepted}
 use Rattle.tracks.specs.Tracks.{total, traces, checkReportTracks}
 use Rattle.tracks.proofs.Accepted.{AcceptedTracks, report-accepted}
@@ -24,10 +23,12 @@ use Rattle.events.specs.Events.{stayLabels}
 use Rattle.fit.specs.Fit.{staySettings}
 use Rattle.infostop.specs.declared.model.Infostop.{Infostop}
 use Rattle.infostop.proofs.Slices.{lent, lent-length}
-use Rattle.reports.specs.Reports.{placeCount, modelXs, modelYs, modelLabels}
+use Rattle.reports.specs.Reports.{placeCount}
 use Rattle.reports.specs.View.{traceStart}
 use Rattle.reports.specs.Visits.{modelPlaces, visitedLabels, traceFixes}
 use Rattle.reports.specs.Steps.{OneTrace, LabelledStays}
+-- Named so that the examples are checked before these lemmas.
+use Rattle.reports.specs.Examples
 use Rattle.reports.proofs.Starts.{start-within}
 use Rattle.reports.proofs.Held.{held-part, held-length}
 

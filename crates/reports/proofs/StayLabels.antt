@@ -1,6 +1,6 @@
 -- The labels of a trace's stays, behind the stay numbers of its fixes.
-use mathlib.Core.Path.{_≡_, refl, sym, ap, ap₂, _∙_}
-use mathlib.Core.List.{List, [], _∷_, _++_, append-nil}
+use mathlib.Core.Path.{_≡_, sym, ap, ap₂, _∙_}
+use mathlib.Core.List.{List}
 use Prim.Native.Nat.{ℕ, _+_, _*_, _-_, _≤_}
 use native.Mathlib.Nat.{add-sub-cancel-left, sub-zero}
 use native.Mathlib.Omega.{arith}

@@ -1,7 +1,7 @@
 -- The report of visits, from what the steps of the code say.
 use mathlib.Core.Path.{_≡_, refl, sym, ap, ap₂, _∙_}
-use mathlib.Core.Bool.{Bool, true, false, false≢true, _||_}
-use mathlib.Core.List.{List, [], _∷_, map}
+use mathlib.Core.Bool.{true, false, false≢true, _||_}
+use mathlib.Core.List.{List, map}
 use Prim.Native.Nat.{ℕ, _<_, _≤_}
 use borrow.Author.Tests.{ltb-false, leb-false}
 use lib.Dec.{leb, ltb}
@@ -18,7 +18,6 @@ use Rattle.tracks.specs.Tracks.{checkReportTracks}
 use Rattle.tracks.proofs.Turns.{first-alone}
 use Rattle.infostop.specs.declared.model.Infostop.{Infostop}
 use Rattle.infostop.proofs.Slices.{lent}
-use Rattle.reports.specs.declared.answer.Reported.{Reported}
 use Rattle.reports.specs.declared.answer.Reported.the-variants as reported
 use Rattle.reports.specs.Reports.{placeCount, modelLabels, checkModel}
 use Rattle.reports.specs.Labels.{labelsIn}

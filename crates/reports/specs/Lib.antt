@@ -4,3 +4,4 @@ pub mod Labels
 pub mod LabelMedians
 pub mod Visits
 pub mod Steps
+pub mod Examples

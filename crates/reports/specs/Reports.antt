@@ -34,7 +34,7 @@ modelLabels m = take (placeCount m) (m .labels)
 unfoldable pub checkModel : Bool → Bool → Checked
 checkModel fitted lacking = inTurn (refuseIf (not fitted) NotFitted ∷ refuseIf lacking Output ∷ [])
 
--- A report of n items, or no report.
+-- A report of n items, or no report: a refusal, whose number and trace are `numberOf` and `traceOf` of crate `tracks`.
 abbrev pub reportIf : Checked → ℕ → Reported
 reportIf Accepted n = reported.Count n
 reportIf (Refused e) n = reported.Refused e

@@ -1,12 +1,10 @@
 -- `stops::feed_all` meets its contract. The invariant: some text was fed so far.
-use mathlib.Core.Path.{_≡_, refl, sym, _∙_, subst}
+use mathlib.Core.Path.{_≡_, refl, _∙_}
 use mathlib.Core.List.{List, [], _++_}
 use Prim.Native.Nat.{ℕ}
 use native.Mathlib.Omega.{arith}
 use lib.ListN.{length}
-use lib.Ieee.{Float}
-use Rattle.text.specs.declared.Reader.{Reader}
-use Rattle.text.specs.Pieces.{startReader, Fed}
+use Rattle.text.specs.Pieces.{Fed}
 use Rattle.text.proofs.Pieces.{fed-start, fed-more}
 use borrow.Author.Needs.{needs}
 use Rattle.stops.proofs.feed_all.Statement.{statement}
@@ -21,11 +19,8 @@ abbrev μ-loop : tie.MeasureT-loop
 start-requires : tie.Need-start-requires Inv-loop μ-loop
 start-requires c κs = search needs
 
-started : {s : Reader} (xs ys times : List Float) (marks lens : List ℕ) → s ≡ startReader → Fed xs ys times marks lens [] s xs ys times marks lens
-started xs ys times marks lens e = subst (λ (z : Reader). Fed xs ys times marks lens [] z xs ys times marks lens) (sym e) fed-start
-
 loop-holds : tie.Need-loop-holds Inv-loop μ-loop
-loop-holds c = (([], started _ _ _ _ _ (c .start .ensures)), refl, refl, refl, refl, refl)
+loop-holds c = (([], fed-start (c .start .ensures)), refl, refl, refl, refl, refl)
 
 feed-some-requires : tie.Need-feed-some-requires Inv-loop μ-loop
 feed-some-requires c κs = search needs

@@ -1,6 +1,6 @@
 -- `reports::medians::median_column` meets its contract.
 use mathlib.Core.Path.{_≡_, refl}
-use Prim.Native.Nat.{_-_, _≤_}
+use Prim.Native.Nat.{_-_}
 use native.Mathlib.Omega.{arith}
 use lib.ListN.{length, take, length-set}
 use Rattle.lists.specs.Lists.{overlay}
@@ -12,14 +12,14 @@ use Rattle.reports.proofs.medians.median_column.Statement.{statement}
 use Rattle.reports.proofs.medians.median_column.Tie as tie
 
 abbrev Inv-loop : tie.InvT-loop
-Inv-loop labels vs count out₀ l₀ out l = (l ≤ count) × (length out ≡ length out₀) × (out ≡ overlay (take l (labelMedians labels vs)) out₀)
+Inv-loop labels vs count out₀ l₀ out l = (length out ≡ length out₀) × (out ≡ overlay (take l (labelMedians labels vs)) out₀)
 
 abbrev μ-loop : tie.MeasureT-loop
-μ-loop labels vs count out₀ l₀ out l = count - l
+μ-loop labels vs count out₀ l₀ out l = length out₀ - l
 
 loop-holds : tie.Need-loop-holds Inv-loop μ-loop
 unfolding labelMedians
-loop-holds c = (search needs, refl, each-start (labelMedian (c .before .before .args .labels .now) (c .before .before .args .vs .now)) (labelsIn (c .before .before .args .labels .now)) (c .before .before .args .out .now))
+loop-holds c = (refl, each-start (labelMedian (c .before .before .args .labels .now) (c .before .before .args .vs .now)) (labelsIn (c .before .before .args .labels .now)) (c .before .before .args .out .now))
 
 label-median-requires : tie.Need-label-median-requires Inv-loop μ-loop
 label-median-requires c κs = search needs
@@ -39,14 +39,14 @@ loop-less c = search needs
 loop-again : tie.Need-loop-again Inv-loop μ-loop
 unfolding labelMedians
 loop-again c =
-    (search needs, simp length-set (omega arith), each-on (labelMedian (c .before .before .before .before .before .args .labels .now) (c .before .before .before .before .before .args .vs .now)) (labelsIn (c .before .before .before .before .before .args .labels .now)) (c .before .before .before .before .before .args .out .now) (c .before .before .loop .l) (c .before .before .loop .out) (c .before .before .loop .inv .2) (omega arith) (omega arith) (c .label-median .ensures))
+    (simp length-set (omega arith), each-on (labelMedian (c .before .before .before .before .before .args .labels .now) (c .before .before .before .before .before .args .vs .now)) (labelsIn (c .before .before .before .before .before .args .labels .now)) (c .before .before .before .before .before .args .out .now) (c .before .before .loop .l) (c .before .before .loop .out) (c .before .before .loop .inv .1) (omega arith) (omega arith) (c .label-median .ensures))
 
 same-length : tie.Need-same-length Inv-loop μ-loop
 same-length c = search needs
 
 returns : tie.Need-returns Inv-loop μ-loop
 unfolding labelMedians
-returns c = each-end (labelMedian (c .before .before .before .before .args .labels .now) (c .before .before .before .before .args .vs .now)) (labelsIn (c .before .before .before .before .args .labels .now)) (c .before .before .before .before .args .out .now) (c .before .loop .l) (c .before .loop .out) (c .before .loop .inv .2) (omega arith)
+returns c = each-end (labelMedian (c .before .before .before .before .args .labels .now) (c .before .before .before .before .args .vs .now)) (labelsIn (c .before .before .before .before .args .labels .now)) (c .before .before .before .before .args .out .now) (c .before .loop .l) (c .before .loop .out) (c .before .loop .inv .1) (omega arith)
 
 pub median-column-spec : {M : Type 1} → statement M
 median-column-spec =

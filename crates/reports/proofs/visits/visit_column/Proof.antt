@@ -1,7 +1,7 @@
 -- `reports::visits::visit_column` meets its contract.
 use mathlib.Core.Path.{_≡_, refl}
 use mathlib.Core.List.{map}
-use Prim.Native.Nat.{_-_, _≤_}
+use Prim.Native.Nat.{_-_}
 use native.Mathlib.Omega.{arith}
 use lib.ListN.{length, take, length-set}
 use Rattle.lists.specs.Lists.{upto, overlay}
@@ -12,13 +12,13 @@ use Rattle.reports.proofs.visits.visit_column.Statement.{statement}
 use Rattle.reports.proofs.visits.visit_column.Tie as tie
 
 abbrev Inv-loop : tie.InvT-loop
-Inv-loop labels count out₀ l₀ out l = (l ≤ count) × (length out ≡ length out₀) × (out ≡ overlay (take l (map (visitsTo labels) (upto count))) out₀)
+Inv-loop labels count out₀ l₀ out l = (length out ≡ length out₀) × (out ≡ overlay (take l (map (visitsTo labels) (upto count))) out₀)
 
 abbrev μ-loop : tie.MeasureT-loop
-μ-loop labels count out₀ l₀ out l = count - l
+μ-loop labels count out₀ l₀ out l = length out₀ - l
 
 loop-holds : tie.Need-loop-holds Inv-loop μ-loop
-loop-holds c = (search needs, refl, each-start (visitsTo (c .before .args .labels .now)) (c .before .args .count) (c .before .args .out .now))
+loop-holds c = (refl, each-start (visitsTo (c .before .args .labels .now)) (c .before .args .count) (c .before .args .out .now))
 
 visits-to-requires : tie.Need-visits-to-requires Inv-loop μ-loop
 visits-to-requires c κs = search needs
@@ -36,13 +36,13 @@ loop-less : tie.Need-loop-less Inv-loop μ-loop
 loop-less c = search needs
 
 loop-again : tie.Need-loop-again Inv-loop μ-loop
-loop-again c = (search needs, simp length-set (omega arith), each-on (visitsTo (c .before .before .before .before .args .labels .now)) (c .before .before .before .before .args .count) (c .before .before .before .before .args .out .now) (c .before .before .loop .l) (c .before .before .loop .out) (c .before .before .loop .inv .2) (c .before .loop-test .taken) (c .before .before .before .before .pre .1) (c .visits-to .ensures))
+loop-again c = (simp length-set (omega arith), each-on (visitsTo (c .before .before .before .before .args .labels .now)) (c .before .before .before .before .args .count) (c .before .before .before .before .args .out .now) (c .before .before .loop .l) (c .before .before .loop .out) (c .before .before .loop .inv .1) (c .before .loop-test .taken) (c .before .before .before .before .pre .1) (c .visits-to .ensures))
 
 same-length : tie.Need-same-length Inv-loop μ-loop
 same-length c = search needs
 
 returns : tie.Need-returns Inv-loop μ-loop
-returns c = each-end (visitsTo (c .before .before .before .args .labels .now)) (c .before .before .before .args .count) (c .before .before .before .args .out .now) (c .before .loop .l) (c .before .loop .out) (c .before .loop .inv .2) (c .loop-test .left)
+returns c = each-end (visitsTo (c .before .before .before .args .labels .now)) (c .before .before .before .args .count) (c .before .before .before .args .out .now) (c .before .loop .l) (c .before .loop .out) (c .before .loop .inv .1) (c .loop-test .left)
 
 pub visit-column-spec : {M : Type 1} → statement M
 visit-column-spec =
