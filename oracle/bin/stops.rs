@@ -1,4 +1,5 @@
 //! stops: reads a text in the program's form on standard input and prints what the program must print, by the Rust with the stand-ins.
+//! stops list: the same for each text of a list (texts.rs), with an empty line after each answer.
 //! The form and the refusals that the Rust does not have are read from document 01 here, apart from the program's own reader.
 use edited::config::Config;
 use edited::distance::{Euclidean, MetricKind};
@@ -134,25 +135,52 @@ fn fit(text: &[u8]) -> Result<Vec<Vec<i32>>, (u32, usize)> {
     answer
 }
 
-fn main() {
-    let mut text = Vec::new();
-    if let Err(e) = std::io::stdin().read_to_end(&mut text) {
-        fail(&format!("standard input cannot be read: {e}"));
-    }
-    let mut out = String::new();
-    match fit(&text) {
-        Err((number, trace)) => {
-            out += &format!("refused trace\n{number} {trace}\n")
-        }
+fn answer(text: &[u8]) -> String {
+    match fit(text) {
+        Err((number, trace)) => format!("refused trace\n{number} {trace}\n"),
         Ok(labels) => {
-            out += "trace fix label\n";
+            let mut out = String::from("trace fix label\n");
             for (t, trace) in labels.iter().enumerate() {
                 for (f, label) in trace.iter().enumerate() {
                     out += &format!("{t} {f} {label}\n");
                 }
             }
+            out
         }
     }
+}
+
+/// The number in front of a line feed, and what follows it.
+fn number(text: &[u8]) -> Option<(usize, &[u8])> {
+    let end = text.iter().position(|&b| b == b'\n')?;
+    let word = std::str::from_utf8(&text[..end]).ok()?;
+    Some((word.parse().ok()?, &text[end + 1..]))
+}
+
+fn answers(list: &[u8]) -> Option<String> {
+    let (count, mut rest) = number(list)?;
+    let mut out = String::new();
+    for _ in 0..count {
+        let (len, text) = number(rest)?;
+        out += &answer(text.get(..len)?);
+        out.push('\n');
+        rest = text.get(len + 1..)?;
+    }
+    Some(out)
+}
+
+fn main() {
+    let args: Vec<String> = std::env::args().collect();
+    let mut text = Vec::new();
+    if let Err(e) = std::io::stdin().read_to_end(&mut text) {
+        fail(&format!("standard input cannot be read: {e}"));
+    }
+    let out = match &args[1..] {
+        [] => answer(&text),
+        [list] if list == "list" => answers(&text)
+            .unwrap_or_else(|| fail("the input is no list of texts")),
+        _ => fail("usage: stops [list]"),
+    };
     if let Err(e) = std::io::stdout().write_all(out.as_bytes()) {
         fail(&format!("standard output cannot be written: {e}"));
     }

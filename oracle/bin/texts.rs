@@ -1,6 +1,9 @@
 //! texts FOLDER COUNT: writes COUNT texts for the program into FOLDER, always the same ones: tracks in its form, and damaged ones.
+//! texts list: writes the list of texts that is replayed: edges of the form and of the limits, then some of the made ones. A text is its number of
+//! bytes, a line feed, the bytes and a line feed.
 use edited::random::Random;
 use edited::text::fail;
+use std::io::Write;
 use std::path::Path;
 
 /// Mostly usable settings.
@@ -155,18 +158,114 @@ fn text(r: &mut Random, i: usize) -> Vec<u8> {
     }
 }
 
-fn main() {
-    let args: Vec<String> = std::env::args().collect();
-    let [_, folder, count] = &args[..] else {
-        fail("usage: texts FOLDER COUNT");
-    };
-    let count: usize =
-        count.parse().unwrap_or_else(|_| fail("COUNT is no number"));
+fn with(settings: &str, lines: &str) -> Vec<u8> {
+    let names = "r1 r2 single stay gap size seed";
+    format!("{names}\n{settings}\ntrace x y time\n{lines}").into_bytes()
+}
+
+/// Each refusal that a text can reach, the limits, and the edges of the form.
+fn edges() -> Vec<Vec<u8>> {
+    const USUAL: &str = "10 10 1 300 86400 2 42";
+    const TWO: &str = "0 0 0 -\n0 3 4 -\n";
+    let mut out = vec![Vec::new(), b"\n".to_vec(), vec![0xff; 40]];
+    for settings in [
+        USUAL,
+        "0 10 1 300 86400 2 42",
+        "10 0 1 300 86400 2 42",
+        "10 10 1 0 86400 2 42",
+        "10 10 1 300 -0 2 42",
+        "10 10 1 300 300 2 42",
+        "10 10 1 300 86400 1 42",
+        "10 10 -0 300 86400 2 42",
+        "10 10 2 300 86400 2 42",
+        "10 10 -1 300 86400 2 42",
+        "10 10 1 300 86400 -2 42",
+        "10 10 1 300 86400 2 -1",
+        "1000000000 1000000000 1 300 86400 2 1000000000",
+        "1000000001 10 1 300 86400 2 42",
+        "0010 10 1 300 86400 2 42",
+        "+10 10 1 300 86400 2 42",
+        "10 10 1 300 86400 2",
+        "10 10 1 300 86400 2 42 ",
+        " 10 10 1 300 86400 2 42",
+        "10  10 1 300 86400 2 42",
+        "10 - 1 300 86400 2 42",
+    ] {
+        out.push(with(settings, TWO));
+    }
+    for lines in [
+        "",
+        "0 0 0 -",
+        "0 0 0 -\n\n",
+        "1 0 0 -\n",
+        "0 0 0 -\n2 0 0 -\n",
+        "0 0 0 -\n1 0 0 -\n0 0 0 -\n",
+        "0 -0 0 -\n0 0 -0 -\n",
+        "0 1000000000 -1000000000 -\n0 1000000000 -1000000000 -\n",
+        "0 1000000001 0 -\n",
+        "0 0 0 0\n0 0 0 300\n",
+        "0 0 0 0\n0 0 0 299\n",
+        "0 0 0 10\n0 0 0 9\n",
+        "0 0 0 -\n1 0 0 5\n1 0 0 -\n",
+        "0 0 0 --\n",
+        "0 - 0 -\n",
+        "0 0 0 - \n",
+        "0 0 0\n",
+        "0 0 0 -\r\n",
+        "0 0.5 0 -\n",
+        "0 0 0 -\n0 6 9 -\n",
+    ] {
+        out.push(with(USUAL, lines));
+    }
+    for (places, each) in [(64, 2), (65, 2), (256, 2), (257, 2), (256, 3)] {
+        out.push(with(USUAL, &standing(places, each)));
+        out.push(with("1 1 0 300 86400 2 42", &standing(places, each)));
+    }
+    out.push(with(USUAL, &(standing(256, 3) + "255 0 0 -\n")));
+    out.push(with("0 10 1 300 86400 2 42", &standing(257, 3)));
+    let zeros = "0".repeat(20_000);
+    out.push(with(USUAL, &format!("0 {zeros}3 0 -\n0 3 {zeros} -\n")));
+    out.push(with(USUAL, &format!("0 {} 0 -\n", "9".repeat(20_000))));
+    out.push(with(USUAL, &format!("0{}0 0 -\n", " ".repeat(20_000))));
+    let whole = with(USUAL, TWO);
+    out.push(whole[..whole.len() - 1].to_vec());
+    out.push(whole[1..].to_vec());
+    out
+}
+
+fn put_list() {
+    let mut texts = edges();
+    let mut r = Random(20_261_117);
+    texts.extend((0..160).filter(|i| i % 40 > 3).map(|i| text(&mut r, i)));
+    let mut out = format!("{}\n", texts.len()).into_bytes();
+    for t in texts {
+        out.extend(format!("{}\n", t.len()).bytes());
+        out.extend(t);
+        out.push(b'\n');
+    }
+    if let Err(e) = std::io::stdout().write_all(&out) {
+        fail(&format!("standard output cannot be written: {e}"));
+    }
+}
+
+fn put_folder(folder: &str, count: usize) {
     let mut r = Random(20_261_116);
     for i in 0..count {
         let path = Path::new(folder).join(format!("{i}.txt"));
         if let Err(e) = std::fs::write(&path, text(&mut r, i)) {
             fail(&format!("{} cannot be written: {e}", path.display()));
         }
+    }
+}
+
+fn main() {
+    let args: Vec<String> = std::env::args().collect();
+    match &args[1..] {
+        [list] if list == "list" => put_list(),
+        [folder, count] => put_folder(
+            folder,
+            count.parse().unwrap_or_else(|_| fail("COUNT is no number")),
+        ),
+        _ => fail("usage: texts list, or texts FOLDER COUNT"),
     }
 }
