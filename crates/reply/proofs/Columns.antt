@@ -6,7 +6,7 @@ use Prim.Native.Nat.{ℕ, zero, suc, _+_, _≤_}
 use native.Mathlib.Omega.{arith}
 use borrow.Author.Tests.{ltb-false}
 use lib.Dec.{ltb}
-use lib.ListN.{length, take, replicate, length-replicate, length-map, length-take}
+use lib.ListN.{length, take, replicate, length-replicate, length-map}
 use lib.Seq.{take-all}
 use lib.Ieee.{Float}
 use Rattle.lists.specs.Lists.{overlay}
@@ -74,9 +74,6 @@ pub from-fed : (t : List ℕ) {r : Reader} {p : Parsed} {xs ys times : List Floa
 from-fed t {r} {p} {xs} {ys} {times} {marks} {lens} f q =
     subst (λ (z : Parsed). FromText t z xs ys times marks lens) (sym q)
     (fed-read (replicate 768 zero64) (replicate 768 zero64) (replicate 768 zero64) (replicate 768 0) (replicate 768 0) t r xs ys times marks lens f)
-
-pub writes-few : {t out out' : List ℕ} {r : ℕ} → Writes t out r out' → r ≤ length out
-writes-few {t} {out} w = omega (arith, w .count, length-take (length out) t)
 
 pub writes-as : {t u out out' : List ℕ} {r : ℕ} → t ≡ u → Writes t out r out' → Writes u out r out'
 writes-as {t} {u} {out} {out'} {r} e w = subst (λ (z : List ℕ). Writes z out r out') e w

@@ -2,7 +2,7 @@
 use Prim.Native.Nat.{ℕ}
 use native.Mathlib.Omega.{arith}
 use lib.ListN.{length-replicate}
-use Rattle.reply.proofs.Columns.{writes-few}
+use Rattle.print.proofs.Sizes.{within}
 use borrow.Author.Needs.{needs}
 use Rattle.replay_texts.proofs.answer.Statement.{statement}
 use Rattle.replay_texts.proofs.answer.Tie as tie
@@ -20,7 +20,7 @@ part-write-all-start : tie.Need-part-write-all-start
 part-write-all-start c = search needs
 
 part-write-all-end : tie.Need-part-write-all-end
-part-write-all-end c = omega (arith, writes-few (c .before .before .reply .ensures), c .before .before .reply .kept .1 .0, length-replicate {A = ℕ} 49152 0)
+part-write-all-end c = omega (arith, within _ _ _ _ (c .before .before .reply .ensures), c .before .before .reply .kept .1 .0, length-replicate {A = ℕ} 49152 0)
 
 write-all-requires : tie.Need-write-all-requires
 write-all-requires c κs = search needs

@@ -2,7 +2,8 @@
 use Prim.Native.Nat.{ℕ}
 use native.Mathlib.Omega.{arith}
 use lib.ListN.{length-replicate}
-use Rattle.reply.proofs.Columns.{from-fed, writes-few}
+use Rattle.print.proofs.Sizes.{within}
+use Rattle.reply.proofs.Columns.{from-fed}
 use borrow.Author.Needs.{needs}
 use Rattle.stops.proofs.main.Statement.{statement}
 use Rattle.stops.proofs.main.Tie as tie
@@ -56,7 +57,7 @@ part-write-all-start : tie.Need-part-write-all-start
 part-write-all-start c = search needs
 
 part-write-all-end : tie.Need-part-write-all-end
-part-write-all-end c = let f = c .before .before .before .before .before .before .before .before .before .before .before .before .before .before .before .feed-all .ensures in omega (arith, writes-few (c .before .before .answer .ensures (f .0) (from-fed (f .0) (f .1) (c .before .before .before .before .before .before .before .before .before .finish .ensures))), c .before .before .answer .kept .1 .1 .1 .1 .1 .1 .0, length-replicate {A = ℕ} 49152 0)
+part-write-all-end c = let f = c .before .before .before .before .before .before .before .before .before .before .before .before .before .before .before .feed-all .ensures in omega (arith, within _ _ _ _ (c .before .before .answer .ensures (f .0) (from-fed (f .0) (f .1) (c .before .before .before .before .before .before .before .before .before .finish .ensures))), c .before .before .answer .kept .1 .1 .1 .1 .1 .1 .0, length-replicate {A = ℕ} 49152 0)
 
 write-all-requires : tie.Need-write-all-requires
 write-all-requires c κs = search needs
