@@ -35,7 +35,7 @@ use Rattle.infostop.specs.declared.answer.Answer.{Answer}
 use Rattle.infostop.specs.declared.answer.Answer.the-variants.{Labelled, Refused}
 use Rattle.infostop.specs.declared.answer.Fit.{Fit}
 use Rattle.infostop.specs.Models.{modelAfter}
-use Rattle.infostop.specs.Ends.{kept, toldBy, Ended, keepsWork, WorkEnds, givenTo, Kept3}
+use Rattle.infostop.specs.Ends.{kept, toldBy, Ended, keepsWork, WorkEnds, givenTo, HoldsDemand3}
 use Rattle.infostop.proofs.Ending.{no-kept, refused-ends}
 
 -- ---- the fit by its checks
@@ -114,7 +114,7 @@ module _ (m : Infostop) (xs ys times : List Float) (marks lens : List ℕ) (old 
   givenFrom ls ps pl k = givenOf euclidean c ts (record { labels = ls; places = ps; placeLabels = pl; mark = k; rounds = 0 })
 
   -- What the caller holds after an accepted fit has demand 3.
-  pub ended-demand3 : Ended m old o r labels → Kept3 c ts r labels
+  pub ended-demand3 : Ended m old o r labels → HoldsDemand3 c ts r labels
   ended-demand3 x k rounds a = go o refl x
     where
       go : (u : Outcome) → o ≡ u → Ended m old u r labels → Demand3 (givenTo c ts labels (r .model) k)
@@ -139,7 +139,7 @@ module _ (m : Infostop) (xs ys times : List Float) (marks lens : List ℕ) (old 
   tracks = traces lens (fixes xs ys times marks)
 
   abbrev Promised : Fit → List ℤ → List Float → List ℤ → Type 0
-  Promised r labels floats' words' = Ended m old whole r labels × WorkEnds whole floats words floats' words' × Kept3 (m .config) tracks r labels
+  Promised r labels floats' words' = Ended m old whole r labels × WorkEnds whole floats words floats' words' × HoldsDemand3 (m .config) tracks r labels
 
   promised : (r : Fit) (labels : List ℤ) (floats' : List Float) (words' : List ℤ) → Ended m old whole r labels → WorkEnds whole floats words floats' words' → Promised r labels floats' words'
   promised r labels floats' words' x w = (x, w, ended-demand3 m xs ys times marks lens old cap (length floats) (length words) r labels x)

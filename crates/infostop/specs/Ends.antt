@@ -76,5 +76,5 @@ givenTo c ts labels model m = record {
 }
 
 -- Demand 3 of every accepted fit.
-abbrev pub Kept3 : Config → List (List Fix) → Fit → List ℤ → Type 0
-Kept3 c ts r labels = (m : Mark) (rounds : ℕ) → r .answer ≡ Labelled m rounds → Demand3 (givenTo c ts labels (r .model) m)
+abbrev pub HoldsDemand3 : Config → List (List Fix) → Fit → List ℤ → Type 0
+HoldsDemand3 c ts r labels = (m : Mark) (rounds : ℕ) → r .answer ≡ Labelled m rounds → Demand3 (givenTo c ts labels (r .model) m)

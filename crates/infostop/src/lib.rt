@@ -7,7 +7,7 @@ ghost use Rattle.stay.specs.Trace.{fixes};
 ghost use Rattle.tracks.specs.Tracks.{traces};
 ghost use Rattle.fit.specs.Fit.{fit};
 ghost use lib.ListN.{length};
-ghost use Rattle.infostop.specs.Ends.{Ended, WorkEnds, Kept3};
+ghost use Rattle.infostop.specs.Ends.{Ended, WorkEnds, HoldsDemand3};
 
 pub mod answer;
 pub mod model;
@@ -30,7 +30,7 @@ impl Infostop {
     ) -> Fit
         ensures { λ r. ⌜ (Ended self (now (labels .entry)) (fit (self .config) (now (xs .entry)) (now (ys .entry)) (now (times .entry)) (now (marks .entry)) (now (lens .entry)) (length (now (labels .entry))) places (length (now (floats .entry))) (length (now (words .entry)))) r (now (labels .exit)))
             × (WorkEnds (fit (self .config) (now (xs .entry)) (now (ys .entry)) (now (times .entry)) (now (marks .entry)) (now (lens .entry)) (length (now (labels .entry))) places (length (now (floats .entry))) (length (now (words .entry)))) (now (floats .entry)) (now (words .entry)) (now (floats .exit)) (now (words .exit)))
-            × (Kept3 (self .config) (traces (now (lens .entry)) (fixes (now (xs .entry)) (now (ys .entry)) (now (times .entry)) (now (marks .entry)))) r (now (labels .exit))) ⌝ }
+            × (HoldsDemand3 (self .config) (traces (now (lens .entry)) (fixes (now (xs .entry)) (now (ys .entry)) (now (times .entry)) (now (marks .entry)))) r (now (labels .exit))) ⌝ }
     {
         let config = self.config;
         let a = tracks::config::check_config(config);

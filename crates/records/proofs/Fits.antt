@@ -23,7 +23,7 @@ use Rattle.fit.specs.Fit.{Outcome, refused, unlessRefused, fit}
 use Rattle.infostop.specs.declared.model.Infostop.{Infostop}
 use Rattle.infostop.specs.declared.answer.Answer.the-variants as answer
 use Rattle.infostop.specs.declared.answer.Fit.{Fit}
-use Rattle.infostop.specs.Ends.{Ended, WorkEnds, Kept3}
+use Rattle.infostop.specs.Ends.{Ended, WorkEnds, HoldsDemand3}
 use Rattle.infostop.proofs.Slices.{lent}
 use Rattle.infostop.proofs.Ending.{refused-ends}
 use Rattle.infostop.proofs.Promises.{ended-demand3}
@@ -88,7 +88,7 @@ module _ (m : Infostop) (fs : List FixRecord) (lens : List ℕ) (old : List ℤ)
   promised r labels floats' words' x w = (
     x,
     w,
-    subst (λ (z : List Fix). Kept3 (m .config) (traces lens z) r labels) (fixes-are fs)
+    subst (λ (z : List Fix). HoldsDemand3 (m .config) (traces lens z) r labels) (fixes-are fs)
         (ended-demand3 m (xsOf fs) (ysOf fs) (timesOf fs) (marksOf fs) lens old cap (cond (roomFor (length fs) columns marks) (length floats) 0) (length words) r labels x),
   )
 

@@ -17,7 +17,7 @@ use Rattle.tracks.specs.Tracks.{checkLengths, checkCounts, traces}
 use Rattle.fit.specs.Fit.{Outcome}
 use Rattle.infostop.specs.declared.model.Infostop.{Infostop}
 use Rattle.infostop.specs.declared.answer.Fit.{Fit}
-use Rattle.infostop.specs.Ends.{Ended, WorkEnds, Kept3}
+use Rattle.infostop.specs.Ends.{Ended, WorkEnds, HoldsDemand3}
 use Rattle.records.specs.declared.FixRecord.{FixRecord}
 use Rattle.records.specs.Records.{fixOf, xsOf, ysOf, timesOf, marksOf, fitRecords}
 
@@ -63,4 +63,4 @@ module _ (m : Infostop) (fs : List FixRecord) (lens : List ℕ) (old : List ℤ)
   outcome = fitRecords (m .config) fs lens (length old) cap columns marks (length floats) (length words)
 
   abbrev pub Promised : Fit → List ℤ → List Float → List ℤ → Type 0
-  Promised r labels floats' words' = Ended m old outcome r labels × WorkEnds outcome floats words floats' words' × Kept3 (m .config) (traces lens (map fixOf fs)) r labels
+  Promised r labels floats' words' = Ended m old outcome r labels × WorkEnds outcome floats words floats' words' × HoldsDemand3 (m .config) (traces lens (map fixOf fs)) r labels

@@ -10,7 +10,7 @@ ghost use mathlib.Core.List.{List, map};
 ghost use lib.ListN.{length};
 ghost use Rattle.tracks.specs.Tracks.{traces};
 ghost use Rattle.infostop.specs.declared.answer.Answer.the-variants as answer;
-ghost use Rattle.infostop.specs.Ends.{Ended, WorkEnds, Kept3};
+ghost use Rattle.infostop.specs.Ends.{Ended, WorkEnds, HoldsDemand3};
 ghost use Rattle.records.specs.Records.{fixOf, taken, marked, fitRecords};
 ghost use Rattle.records.specs.Steps.{putAt, setMark, markAt, Holds, shortRefusal, Promised};
 
@@ -153,7 +153,7 @@ pub fn fit_records(
     ensures { λ r. ⌜ (now (columns .exit) ≡ taken (now (fixes .entry)) (now (columns .entry))) × (now (marks .exit) ≡ marked (now (fixes .entry)) (now (marks .entry)))
         × (Ended model (now (labels .entry)) (fitRecords (model .config) (now (fixes .entry)) (now (lens .entry)) (length (now (labels .entry))) places (length (now (columns .entry))) (length (now (marks .entry))) (length (now (floats .entry))) (length (now (words .entry)))) r (now (labels .exit)))
         × (WorkEnds (fitRecords (model .config) (now (fixes .entry)) (now (lens .entry)) (length (now (labels .entry))) places (length (now (columns .entry))) (length (now (marks .entry))) (length (now (floats .entry))) (length (now (words .entry)))) (now (floats .entry)) (now (words .entry)) (now (floats .exit)) (now (words .exit)))
-        × (Kept3 (model .config) (traces (now (lens .entry)) (map fixOf (now (fixes .entry)))) r (now (labels .exit))) ⌝ }
+        × (HoldsDemand3 (model .config) (traces (now (lens .entry)) (map fixOf (now (fixes .entry)))) r (now (labels .exit))) ⌝ }
 {
     take_apart(fixes, columns, marks);
     fit_taken(
