@@ -1,0 +1,51 @@
+-- The answer to a text of any length has at most 49,152 bytes, so in a slice of that length it stands whole.
+use mathlib.Core.Path.{_≡_, refl, ap, _∙_}
+use mathlib.Core.Bool.{Bool, true, false}
+use mathlib.Core.List.{List}
+use Prim.Native.Nat.{ℕ, _≤_}
+use native.Mathlib.Omega.{arith}
+use borrow.Author.Tests.{ltb-false}
+use lib.Dec.{ltb}
+use lib.ListN.{length, take, length-map}
+use Rattle.tracks.specs.declared.config.Config.{Config}
+use Rattle.tracks.specs.declared.refusal.Refusal.the-variants.{Text, Counts}
+use Rattle.tracks.specs.declared.refusal.Checked.{Checked}
+use Rattle.tracks.specs.declared.refusal.Checked.the-variants.{Accepted, Refused}
+use Rattle.tracks.specs.Settings.{checkConfig}
+use Rattle.fit.specs.Fit.{Fitted, Outcome, refused, fitted, unlessRefused, fit}
+use Rattle.fit.proofs.Accepted.{fit-labels}
+use Rattle.text.specs.Values.{FixLine, Read, outside, inside, read, xsOf, ysOf, timesOf, marksOf, lengthsOf}
+use Rattle.print.specs.Written.{Writes}
+use Rattle.print.proofs.Sizes.{labels-length, refusal-length, whole}
+use Rattle.reply.specs.Program.{outcomeText, fixesText, readText, programText}
+
+refused-short : (lens : List ℕ) (k : Checked) → length (outcomeText lens (unlessRefused k (refused Counts))) ≤ 49152
+unfolding unlessRefused outcomeText
+refused-short lens Accepted = omega (arith, refusal-length Counts)
+refused-short lens (Refused e) = omega (arith, refusal-length e)
+
+module _ (c : Config) (ls : List FixLine) where
+  abbrev answer : Outcome
+  answer = fit c (xsOf ls) (ysOf ls) (timesOf ls) (marksOf ls) (lengthsOf ls) (length ls) 64 7168 3584
+
+  outcome-short : length ls ≤ 768 → (o : Outcome) → answer ≡ o → length (outcomeText (lengthsOf ls) o) ≤ 49152
+  unfolding outcomeText
+  outcome-short h (refused e) q = omega (arith, refusal-length e)
+  outcome-short h (fitted f) q =
+      let l = fit-labels c (xsOf ls) (ysOf ls) (timesOf ls) (marksOf ls) (lengthsOf ls) (length ls) 64 7168 3584 f q in
+      omega (arith, l, length-map ls (λ (z : FixLine). z .x), labels-length (lengthsOf ls) (f .labels))
+
+  fixes-short : (b : Bool) → ltb 768 (length ls) ≡ b → length (fixesText b c ls) ≤ 49152
+  unfolding fixesText
+  fixes-short true q = refused-short (lengthsOf ls) (checkConfig c)
+  fixes-short false q = outcome-short (ltb-false 768 (length ls) q) answer refl
+
+read-short : (q : Read) → length (readText q) ≤ 49152
+unfolding readText
+read-short outside = omega (arith, refusal-length Text)
+read-short (inside c ls) = fixes-short c ls (ltb 768 (length ls)) refl
+
+-- What `reply` and `answer` write is the whole answer.
+pub answer-whole : (t out : List ℕ) (r : ℕ) (out' : List ℕ) → Writes (programText t) out r out' → length out ≡ 49152 → take r out' ≡ programText t
+unfolding programText
+answer-whole t out r out' w e = whole (programText t) out r out' w (omega (arith, e, read-short (read t))) .1
