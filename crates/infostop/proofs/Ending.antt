@@ -39,16 +39,16 @@ use Rattle.infostop.proofs.Placed.{medians, found, medians-are, places-
 pub refused-ends : (m : Infostop) (old : List ℤ) (o : Outcome) (e : Refusal) → o ≡ refused e → Ended m old o (record { answer = Refused e; model = m }) old
 refused-ends m old o e q = record { answer = ap told (sym q); model = ap (modelAfter m) (sym q); fixes = ap (labelsAfter old) (sym q) }
 
-pub no-kept : {A : Type 0} (m : RunMark) (r : ℕ) (e : Refusal) → kept m r ≡ no e → A
-no-kept m r e q = absurd (let z : _≡_ {A = ℕ} 0 1 = cc in omega arith)
+pub no-kept : {A : Type 0} (m : RunMark) (r n t : ℕ) → kept m r ≡ no n t → A
+no-kept m r n t q = absurd (let z : _≡_ {A = ℕ} 0 1 = cc in omega arith)
 
 -- An answer that tells the outcome, with the model that fits it.
 ended : (m next : Infostop) (old labels : List ℤ) (o : Outcome) (a : Answer) → toldBy a ≡ told o → ((f : Fitted) → o ≡ fitted f → next ≡ fittedModel (m .config) f) → labels ≡ labelsAfter old o
     → Ended m old o (chosen a next m) labels
-ended m next old labels (refused e) (Labelled k r) q h l = no-kept _ _ _ q
+ended m next old labels (refused e) (Labelled k r) q h l = no-kept _ _ _ _ q
 ended m next old labels (refused e) (Refused e') q h l = record { answer = q; model = refl; fixes = l }
 ended m next old labels (fitted f) (Labelled k r) q h l = record { answer = q; model = h f refl; fixes = l }
-ended m next old labels (fitted f) (Refused e) q h l = no-kept _ _ _ (sym q)
+ended m next old labels (fitted f) (Refused e) q h l = no-kept _ _ _ _ (sym q)
 
 unless-fitted : (b : Bool) (g f : Fitted) → unlessNone b g ≡ fitted f → f ≡ g
 unfolding unlessNone

@@ -35,7 +35,7 @@ use Rattle.infostop.specs.declared.answer.Answer.{Answer}
 use Rattle.infostop.specs.declared.answer.Answer.the-variants.{Labelled, Refused}
 use Rattle.infostop.specs.declared.answer.Fit.{Fit}
 use Rattle.infostop.specs.Models.{modelAfter}
-use Rattle.infostop.specs.Ends.{kept, toldBy, Ended, keepsWork, WorkEnds, givenTo, HoldsDemand3}
+use Rattle.infostop.specs.Ends.{kept, toldBy, Ended, keepsWork, WorkEnds, givenTo, HoldsDemand3, Promised}
 use Rattle.infostop.proofs.Ending.{no-kept, refused-ends}
 
 -- ---- the fit by its checks
@@ -118,7 +118,7 @@ module _ (m : Infostop) (xs ys times : List Float) (marks lens : List ℕ) (old 
   ended-demand3 x k rounds a = go o refl x
     where
       go : (u : Outcome) → o ≡ u → Ended m old u r labels → Demand3 (givenTo c ts labels (r .model) k)
-      go (refused e) q y = no-kept (markOf k) rounds e (ap toldBy (sym a) ∙ y .answer)
+      go (refused e) q y = no-kept (markOf k) rounds _ _ (ap toldBy (sym a) ∙ y .answer)
       go (fitted f) q y =
           let t = accepted c xs ys times marks lens (length old) cap floats words f q .fits in
           let d : Demand3 (givenFrom (f .labels) (f .places) (f .placeLabels) (f .mark)) = fit-demand3 c xs ys times marks lens (length old) cap floats words f q in
@@ -138,19 +138,19 @@ module _ (m : Infostop) (xs ys times : List Float) (marks lens : List ℕ) (old 
   abbrev tracks : List (List Fix)
   tracks = traces lens (fixes xs ys times marks)
 
-  abbrev Promised : Fit → List ℤ → List Float → List ℤ → Type 0
-  Promised r labels floats' words' = Ended m old whole r labels × WorkEnds whole floats words floats' words' × HoldsDemand3 (m .config) tracks r labels
+  abbrev Holds : Fit → List ℤ → List Float → List ℤ → Type 0
+  Holds r labels floats' words' = Promised m old floats words whole tracks r labels floats' words'
 
-  promised : (r : Fit) (labels : List ℤ) (floats' : List Float) (words' : List ℤ) → Ended m old whole r labels → WorkEnds whole floats words floats' words' → Promised r labels floats' words'
-  promised r labels floats' words' x w = (x, w, ended-demand3 m xs ys times marks lens old cap (length floats) (length words) r labels x)
+  promised : (r : Fit) (labels : List ℤ) (floats' : List Float) (words' : List ℤ) → Ended m old whole r labels → WorkEnds whole floats words floats' words' → Holds r labels floats' words'
+  promised r labels floats' words' x w = record { ended = x; work = w; demand3 = ended-demand3 m xs ys times marks lens old cap (length floats) (length words) r labels x }
 
   -- A refusal by the checks.
-  pub promised-refused : (e : Refusal) → whole ≡ refused e → Promised (record { answer = Refused e; model = m }) old floats words
+  pub promised-refused : (e : Refusal) → whole ≡ refused e → Holds (record { answer = Refused e; model = m }) old floats words
   promised-refused e q = promised _ _ _ _ (refused-ends m old whole e q) (λ z. (refl, refl))
 
   -- What comes after them.
   pub promised-fit : (r : Fit) (labels : List ℤ) (floats' : List Float) (words' : List ℤ) → checkConfig (m .config) ≡ checked.Accepted → checkTracks xs ys times marks lens (length old) cap (length floats) (length words) ≡ checked.Accepted
-      → Ended m old (fitTraces euclidean (m .config) cap tracks) r labels → Promised r labels floats' words'
+      → Ended m old (fitTraces euclidean (m .config) cap tracks) r labels → Holds r labels floats' words'
   promised-fit r labels floats' words' p q x =
       let b = both-accepted (m .config) xs ys times marks lens (length old) cap (length floats) (length words) p q in
       promised r labels floats' words' (subst (λ (z : Outcome). Ended m old z r labels) (sym b) x) (work-ends whole floats floats' words words' (ap keepsWork b ∙ free-work euclidean (m .config) cap tracks))

@@ -14,8 +14,7 @@ use Rattle.neighbors.specs.Places.{places}
 use Rattle.infomap.specs.declared.Mark.{Mark}
 use Rattle.infomap.specs.Infomap.{RunMark, markOf}
 use Rattle.tracks.specs.declared.config.Config.{Config}
-use Rattle.tracks.specs.declared.refusal.Refusal.{Refusal}
-use Rattle.tracks.specs.Refusals.{numberOf}
+use Rattle.tracks.specs.Refusals.{numberOf, traceOf}
 use Rattle.events.specs.FixLabels.{allMedians}
 use Rattle.fit.specs.Demand.{Given, Demand3}
 use Rattle.fit.specs.Fit.{staySettings, Outcome, refused, fitted}
@@ -25,19 +24,19 @@ use Rattle.infostop.specs.declared.answer.Answer.the-variants.{Labelled,
 use Rattle.infostop.specs.declared.answer.Fit.{Fit}
 use Rattle.infostop.specs.Models.{modelAfter}
 
--- What is told of a fit: the refusal (its number and trace are `numberOf` and `traceOf` of crate `tracks`), or the mark and the rounds of the kept trial.
+-- What is told of a fit: document 01's number of the refusal and its trace, or the mark and the rounds of the kept trial.
 pub data Told : Type 0 where
-  no : Refusal → Told
+  no : ℕ → ℕ → Told
   kept : RunMark → ℕ → Told
 
 abbrev pub told : Outcome → Told
-told (refused e) = no e
+told (refused e) = no (numberOf e) (traceOf e)
 told (fitted f) = kept (f .mark) (f .rounds)
 
 -- The same of each case of the code's answer.
 abbrev pub toldBy : Answer → Told
 toldBy (Labelled m r) = kept (markOf m) r
-toldBy (Refused e) = no e
+toldBy (Refused e) = no (numberOf e) (traceOf e)
 
 -- A refusal leaves the labels as they were.
 abbrev pub labelsAfter : List ℤ → Outcome → List ℤ
@@ -78,3 +77,10 @@ givenTo c ts labels model m = record {
 -- Demand 3 of every accepted fit.
 abbrev pub HoldsDemand3 : Config → List (List Fix) → Fit → List ℤ → Type 0
 HoldsDemand3 c ts r labels = (m : Mark) (rounds : ℕ) → r .answer ≡ Labelled m rounds → Demand3 (givenTo c ts labels (r .model) m)
+
+-- What a fit with the model m promises, whose outcome by the definition is o, over the traces ts: how it ends for the caller's labels `old` and
+-- the work slices, and demand 3. Behind them what the caller then holds.
+pub record Promised (m : Infostop) (old : List ℤ) (floats : List Float) (words : List ℤ) (o : Outcome) (ts : List (List Fix)) (r : Fit) (labels : List ℤ) (floats' : List Float) (words' : List ℤ) : Type 0 where
+  pub ended : Ended m old o r labels
+  pub work : WorkEnds o floats words floats' words'
+  pub demand3 : HoldsDemand3 (m .config) ts r labels

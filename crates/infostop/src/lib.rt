@@ -7,7 +7,7 @@ ghost use Rattle.stay.specs.Trace.{fixes};
 ghost use Rattle.tracks.specs.Tracks.{traces};
 ghost use Rattle.fit.specs.Fit.{fit};
 ghost use lib.ListN.{length};
-ghost use Rattle.infostop.specs.Ends.{Ended, WorkEnds, HoldsDemand3};
+ghost use Rattle.infostop.specs.Ends.{Promised};
 
 pub mod answer;
 pub mod model;
@@ -28,9 +28,9 @@ impl Infostop {
         floats: &mut [f64],
         words: &mut [i32],
     ) -> Fit
-        ensures { λ r. ⌜ (Ended self (now (labels .entry)) (fit (self .config) (now (xs .entry)) (now (ys .entry)) (now (times .entry)) (now (marks .entry)) (now (lens .entry)) (length (now (labels .entry))) places (length (now (floats .entry))) (length (now (words .entry)))) r (now (labels .exit)))
-            × (WorkEnds (fit (self .config) (now (xs .entry)) (now (ys .entry)) (now (times .entry)) (now (marks .entry)) (now (lens .entry)) (length (now (labels .entry))) places (length (now (floats .entry))) (length (now (words .entry)))) (now (floats .entry)) (now (words .entry)) (now (floats .exit)) (now (words .exit)))
-            × (HoldsDemand3 (self .config) (traces (now (lens .entry)) (fixes (now (xs .entry)) (now (ys .entry)) (now (times .entry)) (now (marks .entry)))) r (now (labels .exit))) ⌝ }
+        ensures { λ r. ⌜ Promised self (now (labels .entry)) (now (floats .entry)) (now (words .entry))
+            (fit (self .config) (now (xs .entry)) (now (ys .entry)) (now (times .entry)) (now (marks .entry)) (now (lens .entry)) (length (now (labels .entry))) places (length (now (floats .entry))) (length (now (words .entry))))
+            (traces (now (lens .entry)) (fixes (now (xs .entry)) (now (ys .entry)) (now (times .entry)) (now (marks .entry)))) r (now (labels .exit)) (now (floats .exit)) (now (words .exit)) ⌝ }
     {
         let config = self.config;
         let a = tracks::config::check_config(config);

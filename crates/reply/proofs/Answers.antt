@@ -12,6 +12,7 @@ use Rattle.infomap.specs.declared.Mark.{Mark}
 use Rattle.infomap.specs.Infomap.{markOf}
 use Rattle.tracks.specs.declared.config.Config.{Config}
 use Rattle.tracks.specs.declared.refusal.Refusal.{Refusal}
+use Rattle.tracks.specs.Refusals.{numberOf, traceOf}
 use Rattle.fit.specs.Fit.{Fitted, Outcome, refused, fitted, fit}
 use Rattle.infostop.specs.declared.model.Infostop.{Infostop}
 use Rattle.infostop.specs.declared.model.Made.{Made}
@@ -29,16 +30,21 @@ use Rattle.reply.specs.Program.{outcomeText}
 
 labelled-outcome : (lens : List ℕ) (m : Infostop) (old labels : List ℤ) (r : Fit) (o : Outcome) (k : Mark) (n : ℕ) → Ended m old o r labels → r .answer ≡ Labelled k n → labelsText lens labels ≡ outcomeText lens o
 unfolding outcomeText
-labelled-outcome lens m old labels r (refused e) k n x a = no-kept (markOf k) n e (ap toldBy (sym a) ∙ x .answer)
+labelled-outcome lens m old labels r (refused e) k n x a = no-kept (markOf k) n _ _ (ap toldBy (sym a) ∙ x .answer)
 labelled-outcome lens m old labels r (fitted f) k n x a = ap (labelsText lens) (x .fixes)
 
-refusal-is : (e f : Refusal) → no e ≡ no f → e ≡ f
-refusal-is e f q = cc
+-- A refusal's text is that of its number and trace.
+same-text : (e f : Refusal) → no (numberOf e) (traceOf e) ≡ no (numberOf f) (traceOf f) → refusalText e ≡ refusalText f
+unfolding refusalText
+same-text e f q =
+    let n : numberOf e ≡ numberOf f = cc in
+    let t : traceOf e ≡ traceOf f = cc in
+    rw (n, t)
 
 refused-outcome : (lens : List ℕ) (m : Infostop) (old labels : List ℤ) (r : Fit) (o : Outcome) (e : Refusal) → Ended m old o r labels → r .answer ≡ Refused e → refusalText e ≡ outcomeText lens o
 unfolding outcomeText
-refused-outcome lens m old labels r (refused f) e x a = ap refusalText (refusal-is e f (ap toldBy (sym a) ∙ x .answer))
-refused-outcome lens m old labels r (fitted f) e x a = no-kept (f .mark) (f .rounds) e (sym (ap toldBy (sym a) ∙ x .answer))
+refused-outcome lens m old labels r (refused f) e x a = same-text e f (ap toldBy (sym a) ∙ x .answer)
+refused-outcome lens m old labels r (fitted f) e x a = no-kept (f .mark) (f .rounds) _ _ (sym (ap toldBy (sym a) ∙ x .answer))
 
 pub labels-room : (n : ℕ) (labels : List ℤ) → n ≤ 768 → length labels ≡ length (lent 0 n (replicate 768 (negsuc 0))) → n ≤ length (back 0 n labels (replicate 768 (negsuc 0)))
 labels-room n labels h e =

@@ -92,7 +92,7 @@ same-length-5 c = search needs
 returns-3 : tie.Need-returns-3
 returns-3 c =
     let a = c .before .before .before .before .before .before .before .before .before .before .before .before .before .before .before .before .before .before .before .before .args in
-    (refl, refl, λ fs is h. promised-long (a .model) fs (a .lens .now) (a .labels .now) (a .places) (a .columns .now) (a .marks .now) (a .floats .now) (a .words .now) (a .n) is (long-enough _ _ (c .before .before .before .before .before .before .before .before .before .before .before .before .before .before .before .if1 .left)) (c .before .before .before .before .before .before .before .before .before .before .before .before .before .before .if2 .left) h _ _ _ _ (c .before .before .before .before .fit-predict-many .ensures .0) (c .before .before .before .before .fit-predict-many .ensures .1))
+    (refl, refl, λ fs is h. promised-long (a .model) fs (a .lens .now) (a .labels .now) (a .places) (a .columns .now) (a .marks .now) (a .floats .now) (a .words .now) (a .n) is (long-enough _ _ (c .before .before .before .before .before .before .before .before .before .before .before .before .before .before .before .if1 .left)) (c .before .before .before .before .before .before .before .before .before .before .before .before .before .before .if2 .left) h _ _ _ _ (c .before .before .before .before .fit-predict-many .ensures .ended) (c .before .before .before .before .fit-predict-many .ensures .work))
 
 pub fit-taken-spec : {M : Type 1} → statement M
 fit-taken-spec =

@@ -106,7 +106,7 @@ same-length c = search needs
 returns : tie.Need-returns
 returns c =
     let a = c .before .before .before .before .before .before .before .before .before .before .before .before .before .before .before .before .before .before .before .before .before .before .before .before .before .before .before .before .before .args in
-    labelled-writes (a .input) (a .xs .now) (a .ys .now) (a .times .now) (a .marks .now) (a .lens .now) (c .before .before .before .before .before .before .before .before .before .before .before .before .before .before .before .before .before .before .before .before .before .before .before .before .before .before .before .before .before .pre .0) (c .before .before .before .before .before .before .before .before .before .before .before .before .before .before .before .before .before .before .before .before .before .before .from-config .result) (c .before .before .before .before .before .before .before .before .before .before .before .before .before .before .before .before .before .before .before .before .before .before .from-config .ensures) (c .before .before .before .before .before .before .before .before .before .before .before .before .fit-predict-many .result) (c .before .before .before .before .before .before .before .before .before .before .before .before .fit-predict-many .last .1 .1 .1 .1 .1 .1 .0) (c .before .before .before .before .before .before .before .before .before .before .before .before .fit-predict-many .ensures .0) _ _ _ (c .before .before .before .before .before .before .before .before .before .before .before .before .fit-predict-many .kept .1 .1 .1 .1 .1 .1 .0) _ _ (c .before .before .before .before .before .before .before .enum-told .given .1) (c .before .before .print-labels .ensures)
+    labelled-writes (a .input) (a .xs .now) (a .ys .now) (a .times .now) (a .marks .now) (a .lens .now) (c .before .before .before .before .before .before .before .before .before .before .before .before .before .before .before .before .before .before .before .before .before .before .before .before .before .before .before .before .before .pre .0) (c .before .before .before .before .before .before .before .before .before .before .before .before .before .before .before .before .before .before .before .before .before .before .from-config .result) (c .before .before .before .before .before .before .before .before .before .before .before .before .before .before .before .before .before .before .before .before .before .before .from-config .ensures) (c .before .before .before .before .before .before .before .before .before .before .before .before .fit-predict-many .result) (c .before .before .before .before .before .before .before .before .before .before .before .before .fit-predict-many .last .1 .1 .1 .1 .1 .1 .0) (c .before .before .before .before .before .before .before .before .before .before .before .before .fit-predict-many .ensures .ended) _ _ _ (c .before .before .before .before .before .before .before .before .before .before .before .before .fit-predict-many .kept .1 .1 .1 .1 .1 .1 .0) _ _ (c .before .before .before .before .before .before .before .enum-told .given .1) (c .before .before .print-labels .ensures)
 
 same-length-2 : tie.Need-same-length-2
 same-length-2 c = search needs
@@ -114,7 +114,7 @@ same-length-2 c = search needs
 returns-2 : tie.Need-returns-2
 returns-2 c =
     let a = c .before .before .before .before .before .before .before .before .before .before .before .before .before .before .before .before .before .before .before .before .before .before .before .before .before .before .before .args in
-    refused-writes (a .input) (a .xs .now) (a .ys .now) (a .times .now) (a .marks .now) (a .lens .now) (c .before .before .before .before .before .before .before .before .before .before .before .before .before .before .before .before .before .before .before .before .before .before .before .before .before .before .before .pre .0) (c .before .before .before .before .before .before .before .before .before .before .before .before .before .before .before .before .before .before .before .before .from-config .result) (c .before .before .before .before .before .before .before .before .before .before .before .before .before .before .before .before .before .before .before .before .from-config .ensures) (c .before .before .before .before .before .before .before .before .before .before .fit-predict-many .result) (c .before .before .before .before .before .before .before .before .before .before .fit-predict-many .last .1 .1 .1 .1 .1 .1 .0) (c .before .before .before .before .before .before .before .before .before .before .fit-predict-many .ensures .0) _ _ _ _ (c .before .before .before .before .before .a .given .1) (c .before .before .print-refusal .ensures)
+    refused-writes (a .input) (a .xs .now) (a .ys .now) (a .times .now) (a .marks .now) (a .lens .now) (c .before .before .before .before .before .before .before .before .before .before .before .before .before .before .before .before .before .before .before .before .before .before .before .before .before .before .before .pre .0) (c .before .before .before .before .before .before .before .before .before .before .before .before .before .before .before .before .before .before .before .before .from-config .result) (c .before .before .before .before .before .before .before .before .before .before .before .before .before .before .before .before .before .before .before .before .from-config .ensures) (c .before .before .before .before .before .before .before .before .before .before .fit-predict-many .result) (c .before .before .before .before .before .before .before .before .before .before .fit-predict-many .last .1 .1 .1 .1 .1 .1 .0) (c .before .before .before .before .before .before .before .before .before .before .fit-predict-many .ensures .ended) _ _ _ _ (c .before .before .before .before .before .a .given .1) (c .before .before .print-refusal .ensures)
 
 pub fit-text-spec : {M : Type 1} → statement M
 fit-text-spec =
