@@ -27,7 +27,7 @@ use Rattle.neighbors.proofs.NodeList.{node-lt, node-linked, node-at, linked-lin
 use Rattle.whole.specs.Whole.{WholeWeights, Match, Alike}
 use Rattle.whole.proofs.Carried.{Carried, carried-afresh, carried-move, change-afresh}
 use Rattle.whole.proofs.Renumbered.{match-at, change-like}
-use Rattle.rest.specs.KeptTrial.{KeptWith}
+use Rattle.rest.specs.KeptTrial.{KeptQuiet}
 use Rattle.rest.proofs.Quiet.{trial-keeps, trial-no-moves}
 use Rattle.rest.proofs.Answers.{scan-move, scan-none, isolate-move, isolate-none, next-free-above}
 use Rattle.rest.proofs.Marks.{TrialAtRest, kept-rest, kept-at-rest}
@@ -110,15 +110,15 @@ module _ (dist : Metric) (r2 : Float) (single : Bool) (seed : ℕ) (ps : List Pl
           clash (link dist r2 ps (getD ns 0 0) (l .0)) (l .2) (n (getD ns 0 0) (l .0) (node-lt dist r2 ps (getD ns 0 0) m) (l .1))
       go (no h) = d-none dist r2 ps ct few stays (omega arith)
 
-  -- (c) The mark is rest exactly when no place is linked, or a trial is kept and its last round moved nothing.
-  pub rest-means : (cluster dist r2 single seed ps .mark ≡ rest) ↔ (NoLink ⊎ KeptWith net (seeded seed) false)
+  -- (c) The mark is rest exactly when no place is linked, or a trial is kept and no node changed its group in its last round.
+  pub rest-means : (cluster dist r2 single seed ps .mark ≡ rest) ↔ (NoLink ⊎ KeptQuiet net (seeded seed))
   rest-means = ((λ e. to (kept-rest net seed .0 (sym mark-is ∙ e))), (λ z. mark-is ∙ kept-rest net seed .1 (back z (lt zero64 (net .d)) refl)))
     where
-      to : (lt zero64 (net .d) ≡ false) ⊎ ((lt zero64 (net .d) ≡ true) × KeptWith net (seeded seed) false) → NoLink ⊎ KeptWith net (seeded seed) false
+      to : (lt zero64 (net .d) ≡ false) ⊎ ((lt zero64 (net .d) ≡ true) × KeptQuiet net (seeded seed)) → NoLink ⊎ KeptQuiet net (seeded seed)
       to (inl q) = inl (d-false q)
       to (inr q) = inr (q .1)
 
-      back : NoLink ⊎ KeptWith net (seeded seed) false → (b : Bool) → lt zero64 (net .d) ≡ b → (lt zero64 (net .d) ≡ false) ⊎ ((lt zero64 (net .d) ≡ true) × KeptWith net (seeded seed) false)
+      back : NoLink ⊎ KeptQuiet net (seeded seed) → (b : Bool) → lt zero64 (net .d) ≡ b → (lt zero64 (net .d) ≡ false) ⊎ ((lt zero64 (net .d) ≡ true) × KeptQuiet net (seeded seed))
       back (inl n) b q = inl (false-d n)
       back (inr k) true q = inr (q, k)
       back (inr k) false q = inl q
@@ -133,17 +133,19 @@ module _ (dist : Metric) (r2 : Float) (single : Bool) (seed : ℕ) (ps : List Pl
   unfolding runInfomap
   gs-is = refl
 
-  -- h is another group than u's, and a place linked to u's is in it.
-  pub record Neighbouring (u h : ℕ) : Type 0 where
-    pub node : ℕ
-    pub inside : node < length ns
-    pub link : link dist r2 ps (getD ns u 0) (getD ns node 0) ≡ true
-    pub group : getD gs node 0 ≡ h
-    pub other : h ≢ getD gs u 0
+  -- The same groups under other numbers.
+  module _ (shown : List ℕ) where
+    -- h is another group than u's, and a place linked to u's is in it.
+    pub record Neighbouring (u h : ℕ) : Type 0 where
+      pub node : ℕ
+      pub inside : node < length ns
+      pub link : link dist r2 ps (getD ns u 0) (getD ns node 0) ≡ true
+      pub group : getD shown node 0 ≡ h
+      pub other : h ≢ getD shown u 0
 
-  -- h is no node's group.
-  abbrev pub Unused : ℕ → Type 0
-  Unused h = (v : ℕ) → v < length gs → getD gs v 0 ≢ h
+    -- h is no node's group.
+    abbrev pub Unused : ℕ → Type 0
+    Unused h = (v : ℕ) → v < length shown → getD shown v 0 ≢ h
 
   some-d : (u : ℕ) → u < length ns → lt zero64 (net .d) ≡ true
   some-d u h =
@@ -151,15 +153,22 @@ module _ (dist : Metric) (r2 : Float) (single : Bool) (seed : ℕ) (ps : List Pl
       let l = linked-link dist r2 ps (getD ns u 0) (node-linked dist r2 ps (getD ns u 0) m) in
       d-some dist r2 ps ct few stays (getD ns u 0) (l .0) (node-lt dist r2 ps (getD ns u 0) m) (l .1) (l .2)
 
-  module _ (e : cluster dist r2 single seed ps .mark ≡ rest) (u h : ℕ) (hu : u < length ns) where
+  module _ (shown : List ℕ) (like : Alike gs shown) (e : cluster dist r2 single seed ps .mark ≡ rest) (u h : ℕ) (hu : u < length ns) where
     T : TrialAtRest net (keptGrouping net seed .partition) (keptGrouping net seed .rounds)
     T = kept-at-rest net seed (some-d u hu) (sym mark-is ∙ e)
 
     abbrev P : List ℕ
     P = optimizePartition net (T .rng) .state .partition
 
-    alike : Alike P gs
-    alike = subst (λ (z : List ℕ). Alike P z) (sym (gs-is ∙ ap relabelDense (T .partition))) (relabel-alike P)
+    kept-alike : Alike P gs
+    kept-alike = subst (λ (z : List ℕ). Alike P z) (sym (gs-is ∙ ap relabelDense (T .partition))) (relabel-alike P)
+
+    alike : Alike P shown
+    alike = record {
+      long = like .long ∙ kept-alike .long;
+      groups = λ v x hv hx.
+          kept-alike .groups v x hv hx ∙ like .groups v x (subst (λ (m : ℕ). v < m) (sym (kept-alike .long)) hv) (subst (λ (m : ℕ). x < m) (sym (kept-alike .long)) hx);
+    }
 
     long : length P ≡ length ns
     long = ap length (sym (T .partition)) ∙ part-long dist r2 single seed ps ct few stays
@@ -168,9 +177,9 @@ module _ (dist : Metric) (r2 : Float) (single : Bool) (seed : ℕ) (ps : List Pl
     in-P v k = subst (λ (m : ℕ). v < m) (sym long) k
 
     -- Under rest no move of a node into a linked node's group, or into a group of its own, lowers the codelength by more than the margin.
-    pub no-gain : Neighbouring u h ⊎ Unused h → lt (deltaMove net (fromPartition net gs) u h) (neg margin) ≡ false
+    pub no-gain : Neighbouring shown u h ⊎ Unused shown h → lt (deltaMove net (fromPartition net shown) u h) (neg margin) ≡ false
     no-gain (inl q) =
-        subst (λ (z : ℕ). lt (deltaMove net (fromPartition net gs) u z) (neg margin) ≡ false) (q .group)
-        (into-neighbour net (w dist r2 ps ct few stays) (node-whole dist r2 ps ct few stays) (T .rng) (T .still) gs alike u (q .node) (in-P u hu) (in-P (q .node) (q .inside))
+        subst (λ (z : ℕ). lt (deltaMove net (fromPartition net shown) u z) (neg margin) ≡ false) (q .group)
+        (into-neighbour net (w dist r2 ps ct few stays) (node-whole dist r2 ps ct few stays) (T .rng) (T .still) shown alike u (q .node) (in-P u hu) (in-P (q .node) (q .inside))
         (node-links dist r2 ps ct few stays u (q .node) hu (q .inside) ∙ q .link) (λ z. q .other (sym (q .group) ∙ z)))
-    no-gain (inr q) = into-new net (w dist r2 ps ct few stays) (node-whole dist r2 ps ct few stays) (T .rng) (T .still) gs alike u h (in-P u hu) q
+    no-gain (inr q) = into-new net (w dist r2 ps ct few stays) (node-whole dist r2 ps ct few stays) (T .rng) (T .still) shown alike u h (in-P u hu) q

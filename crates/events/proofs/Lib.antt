@@ -1,4 +1,5 @@
 pub mod Medians
+pub mod Lying
 pub mod AllEvents
 pub mod AllStays
 pub mod Labels

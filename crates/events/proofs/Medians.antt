@@ -20,7 +20,7 @@ use Rattle.neighbors.proofs.Found.{Among, among-left, among-right}
 use Rattle.events.specs.FixLabels.{fixCount, allMedians, allLies, labelFor, fixLabels}
 
 -- Some fix lies in a stay with the median m.
-abbrev SomeAt : List (Option Point) → Point → Type 0
+abbrev pub SomeAt : List (Option Point) → Point → Type 0
 SomeAt [] m = ⊥
 SomeAt (x ∷ xs) m = (x ≡ some m) ⊎ SomeAt xs m
 

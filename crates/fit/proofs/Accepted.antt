@@ -29,13 +29,17 @@ use Rattle.tracks.proofs.Unread.{SameMarked, same-fixes, same-check}
 use Rattle.events.specs.FixLabels.{fixCount, allMedians}
 -- Named so that the facts are checked before these lemmas.
 use Rattle.fit.specs.Facts
-use Rattle.fit.specs.Demand.{Demand3}
-use Rattle.fit.specs.Fit.{staySettings, Fitted, Outcome, refused, fitted, unlessNone, givenBy, fromPlaces, fromMedians, fitTraces, unlessRefused, fit, givenOf}
+use Rattle.fit.specs.Demand.{Given, Demand3}
+use Rattle.fit.specs.Fit.{staySettings, Fitted, Outcome, refused, fitted, unlessNone, givenBy, fromPlaces, fromMedians, fitTraces, unlessRefused, fit}
 use Rattle.events.proofs.Medians.{fix-labels-length}
 use Rattle.fit.proofs.Theorem.{demand3}
 
 no-way : {A : Type 0} (e : Refusal) (f : Fitted) → refused e ≡ fitted f → A
 no-way e f q = absurd (let z : _≡_ {A = ℕ} 0 1 = cc in omega arith)
+
+-- What demand 3 speaks of, for an accepted fit.
+abbrev pub givenFor : Metric → Config → List (List Fix) → Fitted → Given
+givenFor dist c ts f = record { dist = dist; config = c; traces = ts; labels = f .labels; mark = f .mark }
 
 -- ---- the fit of traces
 module _ (dist : Metric) (c : Config) (cap : ℕ) (ts : List (List Fix)) (f : Fitted) where
@@ -68,11 +72,11 @@ module _ (dist : Metric) (c : Config) (cap : ℕ) (ts : List (List Fix)) (f : Fi
   traces-done e = let h = median-part (allMedians dist (staySettings c) ts) e in record { few = h .0; is = h .1 }
 
   -- Demand 3 for any distance that takes the lower place first.
-  pub traces-demand3 : fitTraces dist c cap ts ≡ fitted f → cap ≤ 512 → fixCount ts ≤ 65536 → Demand3 (givenOf dist c ts f)
+  pub traces-demand3 : fitTraces dist c cap ts ≡ fitted f → cap ≤ 512 → fixCount ts ≤ 65536 → Demand3 (givenFor dist c ts f)
   unfolding givenBy
   traces-demand3 e k n =
       let d = traces-done e in
-      subst (λ (z : Fitted). Demand3 (givenOf dist c ts z)) (sym (d .is)) (demand3 dist (staySettings c) (c .r2) (c .«label_singleton») (c .seed) ts n (le-trans (d .few) k))
+      subst (λ (z : Fitted). Demand3 (givenFor dist c ts z)) (sym (d .is)) (demand3 dist c ts n (le-trans (d .few) k))
 
   -- One label for each fix.
   pub traces-labels : fitTraces dist c cap ts ≡ fitted f → length (f .labels) ≡ fixCount ts
@@ -132,7 +136,7 @@ module _ (c : Config) (xs ys times : List Float) (marks lens : List ℕ) (labels
     count-is = fix-count lens (fixes xs ys times marks) (let g = agreed (a .tracks) in g .sum ∙ sym all-fixes) ∙ all-fixes
 
     -- Demand 3 of every accepted fit.
-    pub fit-demand3 : Demand3 (givenOf euclidean c ts f)
+    pub fit-demand3 : Demand3 (givenFor euclidean c ts f)
     fit-demand3 = let k = counted (a .tracks) in traces-demand3 euclidean c cap ts f (a .fits) (k .few-places) (subst (λ (m : ℕ). m ≤ 65536) (sym count-is) (k .few-fixes))
 
     -- One label for each fix.

@@ -1,16 +1,17 @@
 -- Demand 3 of the labels that follow from the tracks' medians.
 use mathlib.Core.Path.{_≡_, refl, sym, ap, _∙_, subst}
-use mathlib.Core.Logic.{_≢_, _↔_, _⊎_, inl, inr}
+use mathlib.Core.Logic.{_↔_, _⊎_, inl, inr}
 use mathlib.Core.Option.{Option, none, some}
-use mathlib.Core.Bool.{Bool, true, false}
+use mathlib.Core.Bool.{Bool, true, false, cond}
 use mathlib.Core.List.{List, [], _∷_, map}
-use Prim.Native.Nat.{ℕ, zero, suc, _<_, _≤_}
+use Prim.Native.Nat.{ℕ, zero, suc, _*_, _<_, _≤_}
 use native.Mathlib.Omega.{arith}
+use borrow.Author.Tests.{eqb-true, eq-eqb}
+use lib.Dec.{eqb}
 use lib.IntN.{ℤ, pos, pos-ne-negsuc}
 use lib.ListN.{length, getD, length-map}
-use lib.Seq.{ext-getD}
 use lib.Ieee.{Float, lt, neg}
-use Rattle.lists.proofs.Tests.{clash}
+use Rattle.lists.proofs.Tests.{clash, eqb-like}
 use Rattle.distance.specs.declared.Point.{Point}
 use Rattle.stay.specs.declared.StaySettings.{StaySettings}
 use Rattle.stay.specs.Trace.{Fix}
@@ -18,21 +19,50 @@ use Rattle.neighbors.specs.Places.{Place, placeOf, places, stayCount}
 use Rattle.neighbors.specs.Links.{Metric, link, linked, nodes}
 use Rattle.neighbors.specs.Chains.{Chain}
 use Rattle.neighbors.proofs.Found.{Counted, counted, placed, all-counted}
-use Rattle.neighbors.proofs.NodeList.{link-linked, linked-link, node-at, node-position}
-use Rattle.map_state.specs.MapState.{deltaMove}
-use Rattle.codelength.specs.Codelength.{fromPartition}
+use Rattle.neighbors.proofs.NodeList.{link-linked, linked-link, node-lt, node-at, node-position}
 use Rattle.scan.specs.Scan.{margin}
 use Rattle.infomap.specs.Infomap.{rest, runInfomap}
 use Rattle.rng.specs.Rng.{seeded}
-use Rattle.rest.specs.KeptTrial.{KeptWith}
+use Rattle.whole.specs.Whole.{Alike}
+use Rattle.rest.specs.KeptTrial.{KeptQuiet}
 use Rattle.cluster.specs.Cluster.{nodeNetwork, cluster}
 use Rattle.cluster.proofs.Labelled.{label-none, label-chain, node-label, labels-long}
 use Rattle.cluster.proofs.AtRest as at-rest
 use Rattle.events.specs.FixLabels.{fixCount, allMedians, allLies, labelFor, fixLabels}
-use Rattle.fit.specs.Demand.{minusOne, Given, Outside, LiesIn, Alone, wholeLabel, shownGroups, NeighbourGroup, NewGroup, change, Demand3}
-use Rattle.events.proofs.Medians.{lies-among, all-medians-few, label-at}
+use Rattle.tracks.specs.declared.config.Config.{Config}
+use Rattle.fit.specs.Fit.{staySettings}
+use Rattle.fit.specs.Demand.{minusOne, Given, isIn, labelIn, numbered, medianLabel, Outside, LiesIn, Alone, shownGroups, NeighbourGroup, NewGroup, change, Demand3}
+use Rattle.events.proofs.Medians.{lies-among, all-medians-few, fix-labels-length, label-at}
+use Rattle.events.proofs.Lying.{some-inside}
 
-module _ (dist : Metric) (s : StaySettings) (r2 : Float) (single : Bool) (seed : ℕ) (ts : List (List Fix)) (fixes : fixCount ts ≤ 65536) (few : length (places (allMedians dist s ts)) ≤ 512) where
+-- Of fixes that have the labels of their places, the first that lies in place i has the label of i.
+label-in : (ps : List Place) (pl : List ℤ) (i k : ℕ) (m : Point) (ms : List (Option Point)) → getD ms k none ≡ some m → placeOf ps m ≡ i → labelIn ps i ms (map (labelFor ps pl) ms) ≡ getD pl i minusOne
+unfolding labelIn labelFor isIn
+label-in ps pl i k m [] e q = absurd (let z : _≡_ {A = ℕ} 0 1 = cc in omega arith)
+label-in ps pl i zero m (none ∷ ms) e q = absurd (let z : _≡_ {A = ℕ} 0 1 = cc in omega arith)
+label-in ps pl i (suc k) m (none ∷ ms) e q = label-in ps pl i k m ms e q
+label-in ps pl i k m (some n ∷ ms) e q = go (eqb (placeOf ps n) i) refl k e (λ j d. label-in ps pl i j m ms d q)
+  where
+    go : (b : Bool) → eqb (placeOf ps n) i ≡ b → (k : ℕ) → getD (some n ∷ ms) k none ≡ some m
+        → ((j : ℕ) → getD ms j none ≡ some m → labelIn ps i ms (map (labelFor ps pl) ms) ≡ getD pl i minusOne)
+        → cond b (getD pl (placeOf ps n) minusOne) (labelIn ps i ms (map (labelFor ps pl) ms)) ≡ getD pl i minusOne
+    go true h k e ih = ap (λ (z : ℕ). getD pl z minusOne) (eqb-true (placeOf ps n) i h)
+    go false h zero e ih = let same : n ≡ m = cc in clash (eqb (placeOf ps n) i) (eq-eqb (placeOf ps n) i (ap (placeOf ps) same ∙ q)) h
+    go false h (suc k) e ih = ih k e
+
+module _ (dist : Metric) (c : Config) (ts : List (List Fix)) (fixes : fixCount ts ≤ 65536) (few : length (places (allMedians dist (staySettings c) ts)) ≤ 512) where
+  abbrev s : StaySettings
+  s = staySettings c
+
+  abbrev r2 : Float
+  r2 = c .r2
+
+  abbrev single : Bool
+  single = c .«label_singleton»
+
+  abbrev seed : ℕ
+  seed = c .seed
+
   abbrev ps : List Place
   ps = places (allMedians dist s ts)
 
@@ -41,18 +71,7 @@ module _ (dist : Metric) (s : StaySettings) (r2 : Float) (single : Bool) (seed :
 
   -- What a fit gives for these settings and traces.
   abbrev pub given : Given
-  given = record {
-    dist = dist;
-    stay = s;
-    r2 = r2;
-    single = single;
-    seed = seed;
-    traces = ts;
-    labels = fixLabels dist s ps pl ts;
-    places = ps;
-    placeLabels = pl;
-    mark = cluster dist r2 single seed ps .mark;
-  }
+  given = record { dist = dist; config = c; traces = ts; labels = fixLabels dist s ps pl ts; mark = cluster dist r2 single seed ps .mark }
 
   ct : Counted ps
   ct = counted (allMedians dist s ts)
@@ -128,11 +147,11 @@ module _ (dist : Metric) (s : StaySettings) (r2 : Float) (single : Bool) (seed :
 
   -- ---- (c)
 
-  marks : (cluster dist r2 single seed ps .mark ≡ rest) ↔ (((i : ℕ) → i < length ps → Alone given i) ⊎ KeptWith (nodeNetwork dist r2 ps) (seeded seed) false)
+  marks : (cluster dist r2 single seed ps .mark ≡ rest) ↔ (((i : ℕ) → i < length ps → Alone given i) ⊎ KeptQuiet (nodeNetwork dist r2 ps) (seeded seed))
   marks = let r = at-rest.rest-means dist r2 single seed ps ct few stays in ((λ e. to (r .0 e)), (λ z. r .1 (back z)))
     where
       Kept : Type 0
-      Kept = KeptWith (nodeNetwork dist r2 ps) (seeded seed) false
+      Kept = KeptQuiet (nodeNetwork dist r2 ps) (seeded seed)
 
       to : at-rest.NoLink dist r2 single seed ps ct few stays ⊎ Kept → ((i : ℕ) → i < length ps → Alone given i) ⊎ Kept
       to (inl n) = inl (λ i h j k. n i j h k)
@@ -142,43 +161,61 @@ module _ (dist : Metric) (s : StaySettings) (r2 : Float) (single : Bool) (seed :
       back (inl n) = inl (λ i j h k. n i h j k)
       back (inr k) = inr k
 
-  -- ---- (d): the groups that the labels show are the kept grouping
+  -- ---- (d): the groups that the labels show are those of the kept grouping
 
   abbrev ns : List ℕ
   ns = nodes dist r2 ps
+
+  -- The groups of the kept grouping, in labels.
+  abbrev gs : List ℕ
+  gs = runInfomap (nodeNetwork dist r2 ps) seed .partition
+
+  median-label : (i : ℕ) → i < length ps → medianLabel given i ≡ getD pl i minusOne
+  unfolding fixLabels
+  median-label i h = let x = some-inside dist s ts i h in label-in ps pl i (x .fix) (x .median) (allLies dist s ts) (x .lies) (x .place)
+
+  shows : (k i : ℕ) → LiesIn given k i → getD (fixLabels dist s ps pl ts) k minusOne ≡ medianLabel given i
+  shows k i l = label-some k (l .median) (l .lies) ∙ ap (λ (z : ℕ). getD pl z minusOne) (l .place) ∙ sym (median-label i (l .inside))
 
   map-at : (f : ℕ → ℕ) (l : List ℕ) (v : ℕ) → v < length l → getD (map f l) v 0 ≡ f (getD l v 0)
   map-at f [] v h = absurd (omega arith)
   map-at f (x ∷ xs) zero h = refl
   map-at f (x ∷ xs) (suc v) h = map-at f xs v (omega arith)
 
-  pub shown : shownGroups given ≡ runInfomap (nodeNetwork dist r2 ps) seed .partition
-  shown =
-      let f : ℕ → ℕ = λ i. wholeLabel given (getD pl i minusOne) in
-      let gs = runInfomap (nodeNetwork dist r2 ps) seed .partition in
-      let l : length gs ≡ length ns = labels-long dist r2 single seed ps ct few stays in
-      ext-getD 0 (map f ns) gs (length-map ns f ∙ sym l)
-      (λ v h. let k : v < length ns = subst (λ (m : ℕ). v < m) (length-map ns f) h in
-      map-at f ns v k ∙ ap (wholeLabel given) (node-label dist r2 single seed ps (getD ns v 0) (node-at dist r2 ps v k)) ∙ ap (λ (z : ℕ). getD gs z 0) (node-position dist r2 ps v k))
+  abbrev number : ℕ → ℕ
+  number i = numbered (medianLabel given i)
+
+  shown-at : (v : ℕ) → v < length ns → getD (shownGroups given) v 0 ≡ 2 * getD gs v 0
+  unfolding numbered
+  shown-at v h =
+      let m = node-at dist r2 ps v h in
+      map-at number ns v h
+      ∙ ap numbered (median-label (getD ns v 0) (node-lt dist r2 ps (getD ns v 0) m) ∙ node-label dist r2 single seed ps (getD ns v 0) m)
+      ∙ ap (λ (z : ℕ). 2 * getD gs z 0) (node-position dist r2 ps v h)
+
+  shown-long : length (shownGroups given) ≡ length ns
+  shown-long = length-map ns number
+
+  gs-long : length gs ≡ length ns
+  gs-long = labels-long dist r2 single seed ps ct few stays
+
+  shown-alike : Alike gs (shownGroups given)
+  shown-alike = record { long = shown-long ∙ sym gs-long; groups = λ v x hv hx. same v x (subst (λ (m : ℕ). v < m) gs-long hv) (subst (λ (m : ℕ). x < m) gs-long hx) }
+    where
+      same : (v x : ℕ) → v < length ns → x < length ns → eqb (getD gs v 0) (getD gs x 0) ≡ eqb (getD (shownGroups given) v 0) (getD (shownGroups given) x 0)
+      same v x hv hx =
+          let a = shown-at v hv in
+          let b = shown-at x hx in
+          eqb-like (getD gs v 0) (getD gs x 0) (getD (shownGroups given) v 0) (getD (shownGroups given) x 0) (λ e. a ∙ ap (λ (z : ℕ). 2 * z) e ∙ sym b) (λ e. omega (arith, a, b, e))
 
   settles : cluster dist r2 single seed ps .mark ≡ rest → (u h : ℕ) → u < length ns → NeighbourGroup given u h ⊎ NewGroup given h → lt (change given u h) (neg margin) ≡ false
-  settles e u h hu q =
-      subst (λ (z : List ℕ). lt (deltaMove (nodeNetwork dist r2 ps) (fromPartition (nodeNetwork dist r2 ps) z) u h) (neg margin) ≡ false) (sym shown)
-      (at-rest.no-gain dist r2 single seed ps ct few stays e u h hu (way q))
+  settles e u h hu q = at-rest.no-gain dist r2 single seed ps ct few stays (shownGroups given) shown-alike e u h hu (way q)
     where
-      gs : List ℕ
-      gs = runInfomap (nodeNetwork dist r2 ps) seed .partition
-
-      way : NeighbourGroup given u h ⊎ NewGroup given h → at-rest.Neighbouring dist r2 single seed ps ct few stays u h ⊎ at-rest.Unused dist r2 single seed ps ct few stays h
-      way (inl n) = inl (record {
-        node = n .node;
-        inside = n .inside;
-        link = n .link;
-        group = subst (λ (z : List ℕ). getD z (n .node) 0 ≡ h) shown (n .group);
-        other = subst (λ (z : List ℕ). h ≢ getD z u 0) shown (n .other);
-      })
-      way (inr n) = inr (λ v p. subst (λ (z : List ℕ). getD z v 0 ≢ h) shown (n v (subst (λ (m : ℕ). v < m) (labels-long dist r2 single seed ps ct few stays) p)))
+      way : NeighbourGroup given u h ⊎ NewGroup given h
+          → at-rest.Neighbouring dist r2 single seed ps ct few stays (shownGroups given) u h ⊎ at-rest.Unused dist r2 single seed ps ct few stays (shownGroups given) h
+      way (inl n) = inl (record { node = n .node; inside = n .inside; link = n .link; group = n .group; other = n .other })
+      way (inr n) = inr (λ v p. n v (subst (λ (m : ℕ). v < m) shown-long p))
 
   -- Demand 3, whole.
   pub demand3 : Demand3 given
-  demand3 = record { unlabelled = λ k h. rule k; joined = λ k k' l h h' p q. chains k k' l p q; marked = marks; settled = settles }
+  demand3 = record { each = fix-labels-length dist s ps pl ts; unlabelled = λ k h. rule k; joined = λ k k' l h h' p q. chains k k' l p q; marked = marks; shown = shows; settled = settles }

@@ -22,7 +22,6 @@ use Rattle.tracks.specs.declared.refusal.Checked.the-variants.{Accepted, Refuse
 use Rattle.tracks.specs.Settings.{checkConfig}
 use Rattle.tracks.specs.Tracks.{traces, checkTracks}
 use Rattle.events.specs.FixLabels.{allMedians, fixLabels}
-use Rattle.fit.specs.Demand.{Given}
 
 -- The settings that stays are found by.
 abbrev pub staySettings : Config → StaySettings
@@ -79,18 +78,3 @@ unfolding unlessRefused checkConfig checkTracks fitTraces fixes traces
 fit c xs ys times marks lens labels cap floats words =
     unlessRefused (checkConfig c)
     (unlessRefused (checkTracks xs ys times marks lens labels cap floats words) (fitTraces euclidean c cap (traces lens (fixes xs ys times marks))))
-
--- What demand 3 speaks of, for an accepted fit.
-abbrev pub givenOf : Metric → Config → List (List Fix) → Fitted → Given
-givenOf dist c ts f = record {
-  dist = dist;
-  stay = staySettings c;
-  r2 = c .r2;
-  single = c .«label_singleton»;
-  seed = c .seed;
-  traces = ts;
-  labels = f .labels;
-  places = f .places;
-  placeLabels = f .placeLabels;
-  mark = f .mark;
-}

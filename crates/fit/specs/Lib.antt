@@ -1,4 +1,4 @@
-pub mod Demand
 pub mod Fit
+pub mod Demand
 pub mod Tries
 pub mod Facts

@@ -2,16 +2,12 @@
 use mathlib.Core.Path.{_≡_, refl, sym, ap, _∙_, subst}
 use mathlib.Core.Bool.{Bool, true, false}
 use mathlib.Core.List.{List, [], _∷_}
-use Prim.Native.Nat.{ℕ, _≤_}
-use native.Mathlib.Omega.{arith}
+use Prim.Native.Nat.{ℕ}
 use lib.Dec.{ltb}
-use lib.IntN.{ℤ, negsuc}
-use lib.ListN.{length, take, replicate, length-map}
+use lib.IntN.{ℤ}
+use lib.ListN.{length}
 use lib.Ieee.{Float}
-use Rattle.lists.specs.Lists.{upto}
 use Rattle.lists.proofs.Tests.{clash}
-use Rattle.lists.proofs.Upto.{length-upto}
-use Rattle.lists.proofs.Overlay.{take-front}
 use Rattle.distance.specs.declared.Point.{Point}
 use Rattle.distance.specs.Distance.{euclidean}
 use Rattle.stay.specs.Trace.{Fix, fixes}
@@ -22,20 +18,17 @@ use Rattle.infomap.specs.Infomap.{RunMark, markOf}
 use Rattle.cluster.specs.Cluster.{cluster, noneLabelled}
 use Rattle.tracks.specs.declared.config.Config.{Config}
 use Rattle.tracks.specs.declared.refusal.Refusal.{Refusal}
-use Rattle.tracks.specs.declared.refusal.Checked.{Checked}
 use Rattle.tracks.specs.declared.refusal.Checked.the-variants as checked
 use Rattle.tracks.specs.Settings.{checkConfig}
 use Rattle.tracks.specs.Tracks.{traces, checkTracks}
 use Rattle.events.specs.FixLabels.{allMedians}
-use Rattle.fit.specs.Demand.{Given, Demand3}
-use Rattle.fit.specs.Fit.{staySettings, Fitted, Outcome, refused, fitted, unlessNone, givenBy, fromPlaces, fromMedians, fitTraces, unlessRefused, fit, givenOf}
-use Rattle.fit.proofs.Accepted.{traces-done, accepted, fit-demand3}
+use Rattle.fit.specs.Demand.{Demand3}
+use Rattle.fit.specs.Fit.{staySettings, Fitted, Outcome, refused, fitted, unlessNone, givenBy, fromPlaces, fromMedians, fitTraces, unlessRefused, fit}
+use Rattle.fit.proofs.Accepted.{fit-demand3}
 use Rattle.infostop.specs.declared.model.Infostop.{Infostop}
-use Rattle.infostop.specs.declared.answer.Answer.{Answer}
 use Rattle.infostop.specs.declared.answer.Answer.the-variants.{Labelled, Refused}
 use Rattle.infostop.specs.declared.answer.Fit.{Fit}
-use Rattle.infostop.specs.Models.{modelAfter}
-use Rattle.infostop.specs.Ends.{kept, toldBy, Ended, keepsWork, WorkEnds, givenTo, HoldsDemand3, Promised}
+use Rattle.infostop.specs.Ends.{kept, toldBy, Ended, keepsWork, WorkEnds, HoldsDemand3, Promised}
 use Rattle.infostop.proofs.Ending.{no-kept, refused-ends}
 
 -- ---- the fit by its checks
@@ -84,22 +77,6 @@ work-ends o floats floats' words words' e h = absurd (clash (keepsWork o) h e)
 kept-mark : (m m' : RunMark) (r r' : ℕ) → kept m r ≡ kept m' r' → m ≡ m'
 kept-mark m m' r r' e = cc
 
--- Each place has a label.
-labels-each : (dist : Metric) (r2 : Float) (single : Bool) (seed : ℕ) (ps : List Place) → length (cluster dist r2 single seed ps .labels) ≡ length ps
-unfolding cluster
-labels-each dist r2 single seed ps = length-map (upto (length ps)) _ ∙ length-upto (length ps)
-
-module _ (dist : Metric) (c : Config) (cap : ℕ) (ts : List (List Fix)) (f : Fitted) (e : fitTraces dist c cap ts ≡ fitted f) where
-  pub places-are : f .places ≡ places (allMedians dist (staySettings c) ts)
-  unfolding givenBy
-  places-are = ap (λ (z : Fitted). z .places) (traces-done dist c cap ts f e .is)
-
-  pub placed-labels : length (f .placeLabels) ≡ length (f .places)
-  unfolding givenBy
-  placed-labels =
-      let d = traces-done dist c cap ts f e in
-      ap (λ (z : Fitted). length (z .placeLabels)) (d .is) ∙ labels-each dist (c .r2) (c .«label_singleton») (c .seed) (places (allMedians dist (staySettings c) ts)) ∙ ap length (sym places-are)
-
 module _ (m : Infostop) (xs ys times : List Float) (marks lens : List ℕ) (old : List ℤ) (cap floats words : ℕ) (r : Fit) (labels : List ℤ) where
   abbrev c : Config
   c = m .config
@@ -110,25 +87,17 @@ module _ (m : Infostop) (xs ys times : List Float) (marks lens : List ℕ) (old 
   abbrev o : Outcome
   o = fit c xs ys times marks lens (length old) cap floats words
 
-  abbrev givenFrom : List ℤ → List Place → List ℤ → RunMark → Given
-  givenFrom ls ps pl k = givenOf euclidean c ts (record { labels = ls; places = ps; placeLabels = pl; mark = k; rounds = 0 })
-
   -- What the caller holds after an accepted fit has demand 3.
   pub ended-demand3 : Ended m old o r labels → HoldsDemand3 c ts r labels
   ended-demand3 x k rounds a = go o refl x
     where
-      go : (u : Outcome) → o ≡ u → Ended m old u r labels → Demand3 (givenTo c ts labels (r .model) k)
+      go : (u : Outcome) → o ≡ u → Ended m old u r labels → Demand3 (record { dist = euclidean; config = c; traces = ts; labels = labels; mark = markOf k })
       go (refused e) q y = no-kept (markOf k) rounds _ _ (ap toldBy (sym a) ∙ y .answer)
       go (fitted f) q y =
-          let t = accepted c xs ys times marks lens (length old) cap floats words f q .fits in
-          let d : Demand3 (givenFrom (f .labels) (f .places) (f .placeLabels) (f .mark)) = fit-demand3 c xs ys times marks lens (length old) cap floats words f q in
-          let marks-are : f .mark ≡ markOf k = sym (kept-mark (markOf k) (f .mark) rounds (f .rounds) (ap toldBy (sym a) ∙ y .answer)) in
-          let held : f .placeLabels ≡ take (r .model .count) (r .model .labels) =
-          sym (ap (λ (z : Infostop). take (z .count) (z .labels)) (y .model) ∙ take-front (f .placeLabels) (replicate 512 (negsuc 0)) _ (length (f .places)) (sym (placed-labels euclidean c cap ts f t)) refl) in
-          subst (λ (z : List ℤ). Demand3 (givenFrom z (places (allMedians euclidean (staySettings c) ts)) (take (r .model .count) (r .model .labels)) (markOf k))) (sym (y .fixes))
-          (subst (λ (z : List Place). Demand3 (givenFrom (f .labels) z (take (r .model .count) (r .model .labels)) (markOf k))) (places-are euclidean c cap ts f t)
-          (subst (λ (z : List ℤ). Demand3 (givenFrom (f .labels) (f .places) z (markOf k))) held
-          (subst (λ (z : RunMark). Demand3 (givenFrom (f .labels) (f .places) (f .placeLabels) z)) marks-are d)))
+          let mark : f .mark ≡ markOf k = sym (kept-mark (markOf k) (f .mark) rounds (f .rounds) (ap toldBy (sym a) ∙ y .answer)) in
+          subst (λ (z : List ℤ). Demand3 (record { dist = euclidean; config = c; traces = ts; labels = z; mark = markOf k })) (sym (y .fixes))
+          (subst (λ (z : RunMark). Demand3 (record { dist = euclidean; config = c; traces = ts; labels = f .labels; mark = z })) mark
+          (fit-demand3 c xs ys times marks lens (length old) cap floats words f q))
 
 -- ---- what `fit_predict_many` ensures
 module _ (m : Infostop) (xs ys times : List Float) (marks lens : List ℕ) (old : List ℤ) (cap : ℕ) (floats : List Float) (words : List ℤ) where

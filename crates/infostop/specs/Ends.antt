@@ -6,18 +6,15 @@ use mathlib.Core.Bool.{Bool, true, false}
 use mathlib.Core.List.{List}
 use lib.Dec.{ltb}
 use lib.IntN.{ℤ}
-use lib.ListN.{take}
 use lib.Ieee.{Float}
 use Rattle.distance.specs.Distance.{euclidean}
 use Rattle.stay.specs.Trace.{Fix}
-use Rattle.neighbors.specs.Places.{places}
 use Rattle.infomap.specs.declared.Mark.{Mark}
 use Rattle.infomap.specs.Infomap.{RunMark, markOf}
 use Rattle.tracks.specs.declared.config.Config.{Config}
 use Rattle.tracks.specs.Refusals.{numberOf, traceOf}
-use Rattle.events.specs.FixLabels.{allMedians}
-use Rattle.fit.specs.Demand.{Given, Demand3}
-use Rattle.fit.specs.Fit.{staySettings, Outcome, refused, fitted}
+use Rattle.fit.specs.Demand.{Demand3}
+use Rattle.fit.specs.Fit.{Outcome, refused, fitted}
 use Rattle.infostop.specs.declared.model.Infostop.{Infostop}
 use Rattle.infostop.specs.declared.answer.Answer.{Answer}
 use Rattle.infostop.specs.declared.answer.Answer.the-variants.{Labelled, Refused}
@@ -58,25 +55,9 @@ keepsWork (fitted f) = false
 abbrev pub WorkEnds : Outcome → List Float → List ℤ → List Float → List ℤ → Type 0
 WorkEnds o floats words floats' words' = keepsWork o ≡ true → (floats' ≡ floats) × (words' ≡ words)
 
--- What demand 3 speaks of, for a fit with settings c over the traces ts that was answered with the mark m: the caller's labels, and the places with
--- their labels in the model.
-abbrev pub givenTo : Config → List (List Fix) → List ℤ → Infostop → Mark → Given
-givenTo c ts labels model m = record {
-  dist = euclidean;
-  stay = staySettings c;
-  r2 = c .r2;
-  single = c .«label_singleton»;
-  seed = c .seed;
-  traces = ts;
-  labels = labels;
-  places = places (allMedians euclidean (staySettings c) ts);
-  placeLabels = take (model .count) (model .labels);
-  mark = markOf m;
-}
-
--- Demand 3 of every accepted fit.
+-- Demand 3 of every accepted fit with settings c over the traces ts: of the labels that the caller then holds, and of the mark that was answered.
 abbrev pub HoldsDemand3 : Config → List (List Fix) → Fit → List ℤ → Type 0
-HoldsDemand3 c ts r labels = (m : Mark) (rounds : ℕ) → r .answer ≡ Labelled m rounds → Demand3 (givenTo c ts labels (r .model) m)
+HoldsDemand3 c ts r labels = (m : Mark) (rounds : ℕ) → r .answer ≡ Labelled m rounds → Demand3 (record { dist = euclidean; config = c; traces = ts; labels = labels; mark = markOf m })
 
 -- What a fit with the model m promises, whose outcome by the definition is o, over the traces ts: how it ends for the caller's labels `old` and
 -- the work slices, and demand 3. Behind them what the caller then holds.

@@ -11,3 +11,4 @@ pub mod Selected
 pub mod NodeList
 pub mod Compact
 pub mod NodeTable
+pub mod Sources

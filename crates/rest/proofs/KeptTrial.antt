@@ -16,7 +16,7 @@ use Rattle.map_state.specs.Network.{Network}
 use Rattle.codelength.specs.Codelength.{codelength}
 use Rattle.optimize.specs.Rounds.{optimizePartition}
 use Rattle.infomap.specs.Infomap.{Grouping, noneKept, keep, trials, bestOfThree}
-use Rattle.rest.specs.KeptTrial.{trialAt, trialCodelength, Lowest, IsKept, groupingAt, NoneBelow}
+use Rattle.rest.specs.KeptTrial.{generatorAt, trialAt, trialCodelength, Lowest, IsKept, groupingAt, NoneBelow}
 
 not-true : (b : Bool) → (b ≡ true → ⊥) → b ≡ false
 not-true true f = absurd (f refl)
@@ -77,11 +77,11 @@ module _ (net : Network) (x : ℕ) where
   next = optimizePartition net x .rng
 
   later-length : (t : ℕ) → trialCodelength net next t ≡ L (suc t)
-  unfolding trialCodelength trialAt
+  unfolding trialCodelength trialAt generatorAt
   later-length t = refl
 
   later-grouping : (t : ℕ) → groupingAt net next t ≡ groupingAt net x (suc t)
-  unfolding groupingAt trialCodelength trialAt
+  unfolding groupingAt trialCodelength trialAt generatorAt
   later-grouping t = refl
 
   -- all of suc m trials, from the first and the others
@@ -129,7 +129,7 @@ module _ (net : Network) (x : ℕ) where
   one-more k b = cond b (groupingAt net x 0) k
 
   keep-is : (k : Grouping) → keep net k (optimizePartition net x) ≡ one-more k (lt (L 0) (k .codelength))
-  unfolding keep groupingAt trialCodelength trialAt
+  unfolding keep groupingAt trialCodelength trialAt generatorAt
   keep-is k = refl
 
   length-is : groupingAt net x 0 .codelength ≡ L 0
@@ -155,8 +155,13 @@ trials-result net (suc m) x k =
 -- Trial t is a trial on some state of the generator.
 pub trial-is : (net : Network) (x t : ℕ) → (y : ℕ) × (trialAt net x t ≡ optimizePartition net y)
 unfolding trialAt
-trial-is net x zero = (x, refl)
-trial-is net x (suc t) = trial-is net (optimizePartition net x .rng) t
+trial-is net x t = (generatorAt net x t, refl)
+
+-- There is a kept trial, and `moved` is what its last round told.
+pub record KeptWith (net : Network) (x : ℕ) (moved : Bool) : Type 0 where
+  pub trial : ℕ
+  pub is : IsKept net x trial
+  pub last : trialAt net x trial .moved ≡ moved
 
 -- What there is before the first trial.
 abbrev pub byItself : Network → Grouping
@@ -173,10 +178,10 @@ unfolding bestOfThree
 best-is net x = pick (trials-result net 3 x (byItself net))
   where
     lowest-of : (t : ℕ) → LowestOf net x 3 infinity64 t → Lowest net x t
-    lowest-of t l = record { finite = l .below; least = l .least }
+    lowest-of t l = record { below-infinity = l .below; least = l .least }
 
     of-lowest : (t : ℕ) → Lowest net x t → LowestOf net x 3 infinity64 t
-    of-lowest t l = record { below = l .finite; least = l .least }
+    of-lowest t l = record { below = l .below-infinity; least = l .least }
 
     pick : Result net x 3 (byItself net) (trials net 3 x (byItself net)) → Best net x (trials net 3 x (byItself net))
     pick (inl r) = none (r .1) (r .0)
@@ -197,4 +202,4 @@ best-kept net x t k = pick (best-is net x)
   where
     pick : Best net x (bestOfThree net x) → bestOfThree net x ≡ groupingAt net x t
     pick (kept s i e) = e ∙ ap (groupingAt net x) (kept-once net x s t i k)
-    pick (none n e) = clash (lt (trialCodelength net x t) infinity64) (k .lowest .finite) (n t (k .one))
+    pick (none n e) = clash (lt (trialCodelength net x t) infinity64) (k .lowest .below-infinity) (n t (k .one))

@@ -3,4 +3,5 @@ pub mod Quiet
 pub mod Answers
 pub mod Joined
 pub mod KeptTrial
+pub mod LastRound
 pub mod Marks

@@ -15,8 +15,9 @@ use Rattle.map_state.specs.Network.{Network}
 use Rattle.optimize.specs.Rounds.{Run, optimizePartition}
 use Rattle.optimize.proofs.Ends.{spent-after-100}
 use Rattle.infomap.specs.Infomap.{Grouping, RunMark, rest, spent, noneKept, trialMark, bestOfThree, keptGrouping}
-use Rattle.rest.specs.KeptTrial.{trialAt, trialCodelength, groupingAt, KeptWith, NoneBelow}
-use Rattle.rest.proofs.KeptTrial.{trial-is, byItself, Best, kept, none, best-is, best-kept}
+use Rattle.rest.specs.KeptTrial.{trialAt, trialCodelength, groupingAt, KeptQuiet, NoneBelow}
+use Rattle.rest.proofs.LastRound.{kept-quiet}
+use Rattle.rest.proofs.KeptTrial.{trial-is, KeptWith, byItself, Best, kept, none, best-is, best-kept}
 
 -- ---- the mark of a trial
 moved-spent : (b : Bool) → trialMark b ≡ spent → b ≡ true
@@ -78,7 +79,7 @@ module _ (net : Network) (x : ℕ) where
       to (none n i) e = n
 
       back : Best net x (bestOfThree net x) → NoneBelow net x → bestOfThree net x .mark ≡ noneKept
-      back (kept t k i) n = clash (lt (trialCodelength net x t) infinity64) (k .lowest .finite) (n t (k .one))
+      back (kept t k i) n = clash (lt (trialCodelength net x t) infinity64) (k .lowest .below-infinity) (n t (k .one))
       back (none m i) n = ap (λ (z : Grouping). z .mark) i
 
   -- With none kept, each node is by itself, after 0 rounds.
@@ -86,7 +87,7 @@ module _ (net : Network) (x : ℕ) where
   best-by-itself e = pick (best-is net x)
     where
       pick : Best net x (bestOfThree net x) → bestOfThree net x ≡ byItself net
-      pick (kept t k i) = clash (lt (trialCodelength net x t) infinity64) (k .lowest .finite) (best-none .0 e t (k .one))
+      pick (kept t k i) = clash (lt (trialCodelength net x t) infinity64) (k .lowest .below-infinity) (best-none .0 e t (k .one))
       pick (none n i) = i
 
   -- A spent trial has had 100 rounds.
@@ -142,11 +143,12 @@ module _ (net : Network) (seed : ℕ) where
       pick true h = subst P (sym (kept-linked h)) (a h)
       pick false h = subst P (sym (kept-unlinked h)) (b h)
 
-  -- The mark is rest exactly when D is not above 0 or there is a kept trial whose last round moved nothing.
-  pub kept-rest : (keptGrouping net seed .mark ≡ rest) ↔ ((lt zero64 (net .d) ≡ false) ⊎ ((lt zero64 (net .d) ≡ true) × KeptWith net (seeded seed) false))
+  -- The mark is rest exactly when D is not above 0 or there is a kept trial in whose last round no node changed its group.
+  pub kept-rest : (keptGrouping net seed .mark ≡ rest) ↔ ((lt zero64 (net .d) ≡ false) ⊎ ((lt zero64 (net .d) ≡ true) × KeptQuiet net (seeded seed)))
   kept-rest =
-      by-links (λ k. (k .mark ≡ rest) ↔ ((lt zero64 (net .d) ≡ false) ⊎ ((lt zero64 (net .d) ≡ true) × KeptWith net (seeded seed) false)))
-      (λ h. (λ e. inr (h, best-rest net (seeded seed) .0 e), elim [ inl f ↦ clash (lt zero64 (net .d)) h f | inr k ↦ best-rest net (seeded seed) .1 (k .1) ]))
+      let q = kept-quiet net (seeded seed) in
+      by-links (λ k. (k .mark ≡ rest) ↔ ((lt zero64 (net .d) ≡ false) ⊎ ((lt zero64 (net .d) ≡ true) × KeptQuiet net (seeded seed))))
+      (λ h. (λ e. inr (h, q .0 (best-rest net (seeded seed) .0 e)), elim [ inl f ↦ clash (lt zero64 (net .d)) h f | inr k ↦ best-rest net (seeded seed) .1 (q .1 (k .1)) ]))
       (λ h. (λ e. inl h, λ w. refl))
 
   -- It is spent exactly when D is above 0 and there is one whose last round still moved something,
