@@ -1,4 +1,4 @@
--- The distance of two points within the limit is finite and at most three times the limit: it is at most that of two opposite corners
+-- The distance of two points within the limit is finite and at most 3×10^9: it is at most that of two opposite corners
 -- of the square of such points, and that one is worked out. Assumes nothing.
 use mathlib.Core.Path.{_≡_}
 use Prim.Native.Nat.{ℕ, _*_}
@@ -14,7 +14,7 @@ use Rattle.float.proofs.Order.{true→T}
 use Rattle.float.specs.Root.{root}
 use Rattle.float.proofs.Monotone.{nonneg}
 use Rattle.distance.specs.declared.Point.{Point}
-use Rattle.distance.specs.Distance.{euclidean}
+use Rattle.distance.specs.Distance.{euclidean, farthest, Measured}
 use Rattle.distance.specs.Limit.{limit, within, inLimit}
 use Rattle.distance.proofs.Size.{Under, add-under, sub-under, mul-under, square-nonneg, add-nonneg, root-under}
 
@@ -43,7 +43,7 @@ record Corner : Type 0 where
   pub s-nonneg : T (nonneg s64)
   pub r-finite : T (finite r64)
   pub r-nonneg : T (nonneg r64)
-  pub r-within : T (within (3 * limit) r64)
+  pub r-within : T (within farthest r64)
   pub half : Under half64 half64
   pub h-finite : T (finite (mul64 half64 d64))
   pub h-within : T (within limit (mul64 half64 d64))
@@ -91,15 +91,19 @@ both true true e = (tt, tt)
 both true false e = absurd (false≢true e)
 both false y e = absurd (false≢true e)
 
-pub bound : (a b : Point) → inLimit a ≡ true → inLimit b ≡ true → within (3 * limit) (euclidean a b) ≡ true
+bound : (a b : Point) → inLimit a ≡ true → inLimit b ≡ true → within farthest (euclidean a b) ≡ true
 unfolding euclidean inLimit
 bound a b h k =
     let p = both (within limit (a .x)) (within limit (a .y)) h in
     let q = both (within limit (b .x)) (within limit (b .y)) k in
-    is-true (within (3 * limit) (euclidean a b))
-    (under-within (3 * limit) (euclidean a b) r64
+    is-true (within farthest (euclidean a b))
+    (under-within farthest (euclidean a b) r64
     (at-most-corner (sub64 (a .x) (b .x)) (sub64 (a .y) (b .y)) (difference (a .x) (b .x) (p .0) (q .0)) (difference (a .y) (b .y) (p .1) (q .1)))
     (corner .r-within))
+
+-- the distance, by its equation
+pub measured : (a b : Point) (r : Float) → r ≡ euclidean a b → Measured a b r
+measured a b r e = record { equation = e; bounded = λ h k. rw e (bound a b h k) }
 
 -- half the sum of two coordinates within the limit is within it
 pub half-sum : (x y : Float) → within limit x ≡ true → within limit y ≡ true → within limit (mul64 half64 (add64 x y)) ≡ true

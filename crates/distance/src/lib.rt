@@ -1,6 +1,6 @@
 // Points of the plane and their distance.
 ghost use mathlib.Core.Path.{_≡_};
-ghost use Rattle.distance.specs.Distance.{euclidean};
+ghost use Rattle.distance.specs.Distance.{Measured};
 ghost use Rattle.distance.specs.Limit.{limit, within, inLimit};
 
 // A fix, a median or a place.
@@ -32,9 +32,9 @@ pub fn in_limit(p: Point) -> bool
     false
 }
 
-// The distance of two points.
+// The distance of two points, and its bound for points within the limits.
 pub fn distance(a: Point, b: Point) -> f64
-    ensures { λ r. ⌜ r ≡ euclidean a b ⌝ }
+    ensures { λ r. ⌜ Measured a b r ⌝ }
 {
     let dx = a.x - b.x;
     let dy = a.y - b.y;

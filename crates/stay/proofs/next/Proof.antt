@@ -43,7 +43,7 @@ returns c =
     (grown-state (a .q) (a .i) (a .i - a .o .start) (a .work .now) (a .events .now) (a .o) (a .p) (omega arith) refl (omega arith) (p .room .parts)
     ∙ sym (step-joins euclidean (a .s) (a .timed) (a .times .now) (a .p) (a .i) st
     (test-is euclidean (a .s) (a .timed) (a .times .now) (a .p) (a .i) (a .q) (a .work .now) (a .events .now) (a .o)
-    (c .before .before .before .before .before .before .before .before .middle .ensures) (c .before .before .before .before .before .before .before .distance .ensures) (c .before .before .before .before .before .before .elapsed .ensures) (c .before .before .before .before .before .joins .ensures) (c .before .before .before .before .if1 .taken))))
+    (c .before .before .before .before .before .before .before .before .middle .ensures) (c .before .before .before .before .before .before .before .distance .ensures .equation) (c .before .before .before .before .before .before .elapsed .ensures) (c .before .before .before .before .before .joins .ensures) (c .before .before .before .before .if1 .taken))))
 
 close-requires : tie.Need-close-requires
 close-requires c κs = search needs
@@ -71,7 +71,7 @@ returns-2 c =
     ∙ ap (taken (a .p)) e
     ∙ sym (step-closes euclidean (a .s) (a .timed) (a .times .now) (a .p) (a .i) st
     (test-is euclidean (a .s) (a .timed) (a .times .now) (a .p) (a .i) (a .q) (a .work .now) (a .events .now) (a .o)
-    (c .before .before .before .before .before .before .before .before .before .before .before .before .before .before .middle .ensures) (c .before .before .before .before .before .before .before .before .before .before .before .before .before .distance .ensures) (c .before .before .before .before .before .before .before .before .before .before .before .before .elapsed .ensures) (c .before .before .before .before .before .before .before .before .before .before .before .joins .ensures) (c .before .before .before .before .before .before .before .before .before .before .if1 .left))))
+    (c .before .before .before .before .before .before .before .before .before .before .before .before .before .before .middle .ensures) (c .before .before .before .before .before .before .before .before .before .before .before .before .before .distance .ensures .equation) (c .before .before .before .before .before .before .before .before .before .before .before .before .elapsed .ensures) (c .before .before .before .before .before .before .before .before .before .before .before .joins .ensures) (c .before .before .before .before .before .before .before .before .before .before .if1 .left))))
 
 pub next-spec : {M : Type 1} → statement M
 next-spec =
