@@ -188,7 +188,7 @@ pub fn map_equation(
     strengths: &mut [f64],
 ) -> f64
     requires { ⌜ (Sized (now table) stride (now strength) (now partition) (now first) (now exits) (now strengths)) × (Firsts (now partition) (now first)) ⌝ }
-    ensures { λ r. ⌜ r ≡ codelength (netOf (now (table .entry)) stride (now (strength .entry)) d) (now (partition .entry)) ⌝ }
+    ensures { λ r. ⌜ (r ≡ codelength (netOf (now (table .entry)) stride (now (strength .entry)) d) (now (partition .entry))) × (sumsOf (now (exits .exit)) (now (strengths .exit)) ≡ moduleSums (netOf (now (table .entry)) stride (now (strength .entry)) d) (now (partition .entry))) ⌝ }
 {
     sum_modules(table, stride, strength, partition, first, exits, strengths);
     let t = sum_terms(partition, first, exits, strengths, d);

@@ -1,18 +1,21 @@
--- What a move makes of the groups: sums that stand at the lowest member behave as a table by group number. Assumes nothing.
-use mathlib.Core.Path.{_≡_, refl, sym, ap, _∙_}
+-- What a move makes of the groups: sums that stand at the lowest member behave as a table by group number, and those that stand at
+-- other nodes are not read. Assumes nothing.
+use mathlib.Core.Path.{_≡_, refl, sym, ap, ap₂, _∙_}
 use mathlib.Core.Bool.{Bool, true, false, cond}
 use mathlib.Core.List.{List, [], _∷_}
 use mathlib.Core.Logic.{_≢_}
 use Prim.Native.Nat.{ℕ, suc, _<_, _≤_}
+use native.Mathlib.Decide.{decLt}
 use native.Mathlib.Omega.{arith}
-use borrow.Author.Tests.{eqb-true}
+use borrow.Author.Tests.{eqb-true, eq-eqb}
 use lib.Dec.{eqb}
-use lib.ListN.{length, getD, set, length-set}
+use lib.ListN.{length, getD, set, length-set, List·getD-eq-default}
 use lib.Seq.{getD-set-same, getD-set-other}
 use lib.Ieee.{Float}
 use Rattle.float.specs.Binary64.{zero64}
 use Rattle.map_state.specs.Network.{Network}
-use Rattle.map_state.specs.MapState.{MapState, statsOf, statsAt, movedBy, applyMove, lowest}
+use Rattle.map_state.specs.MapState.{MapState, statsOf, statsAt, movedBy, applyMove, lowest, count, leads}
+use Rattle.map_state.specs.declared.ModuleStats.{ModuleStats}
 use Rattle.map_state.proofs.Leaders.{lowest-of, lowest-other}
 
 -- where a group's lowest member stands, the group is
@@ -23,6 +26,11 @@ lowest-at g (x ∷ xs) h = go (lowest-at g xs) (eqb x g) refl h where
   go : (lowest g xs < length xs → getD xs (lowest g xs) 0 ≡ g) → (b : Bool) → eqb x g ≡ b → cond b 0 (suc (lowest g xs)) < suc (length xs) → getD (x ∷ xs) (cond b 0 (suc (lowest g xs))) 0 ≡ g
   go i true e k = eqb-true x g e
   go i false e k = i (omega arith)
+
+-- so it leads it
+pub lowest-leads : (g : ℕ) (part : List ℕ) → lowest g part < length part → leads part (lowest g part) ≡ true
+unfolding leads
+lowest-leads g part h = eq-eqb _ _ (ap (λ (z : ℕ). lowest z part) (lowest-at g part h))
 
 -- two groups with members have different lowest members
 pub apart : (g h : ℕ) (part : List ℕ) → g ≢ h → lowest g part < length part → lowest g part ≢ lowest h part
@@ -90,3 +98,21 @@ module _ (n : Network) (s : MapState) (u h : ℕ) (hu : u < length (s .partition
   pub strength-other : (x : ℕ) → x ≢ old → x ≢ h → lowest x after < length after → statsOf (applyMove n s u h) x .strength ≡ statsOf s x .strength
   unfolding applyMove statsAt
   strength-other x a b p = put-other after (s .strengths) old h d same' x _ _ zero64 a b p ∙ ap (λ (z : ℕ). getD (s .strengths) z zero64) (lowest-other x h (s .partition) u b a)
+
+-- two lists of sums that agree at the nodes that lead agree where a group is asked for
+read-alike : (part : List ℕ) (xs ys : List Float) → length xs ≡ length part → length ys ≡ length part
+    → ((v : ℕ) → v < length part → leads part v ≡ true → getD xs v zero64 ≡ getD ys v zero64) → (g : ℕ) → getD xs (lowest g part) zero64 ≡ getD ys (lowest g part) zero64
+read-alike part xs ys p q e g = go (decLt (lowest g part) (length part))
+  where
+    go : Dec (lowest g part < length part) → getD xs (lowest g part) zero64 ≡ getD ys (lowest g part) zero64
+    go (yes h) = e (lowest g part) h (lowest-leads g part h)
+    go (no h) = List·getD-eq-default xs zero64 {n = lowest g part} (omega arith) ∙ sym (List·getD-eq-default ys zero64 {n = lowest g part} (omega arith))
+
+-- so what stands at the other nodes does not matter
+pub stats-read : (part : List ℕ) (xs ys ss ts : List Float) → length xs ≡ length part → length ys ≡ length part → length ss ≡ length part → length ts ≡ length part
+    → ((v : ℕ) → v < length part → leads part v ≡ true → (getD xs v zero64 ≡ getD ys v zero64) × (getD ss v zero64 ≡ getD ts v zero64))
+    → (g : ℕ) → statsAt part xs ss g ≡ statsAt part ys ts g
+unfolding statsAt
+stats-read part xs ys ss ts p q r t e g =
+    ap₂ {C = ModuleStats} (λ (x s : Float). record { exit = x; strength = s; «n_nodes» = count g part })
+    (read-alike part xs ys p q (λ v h l. e v h l .0) g) (read-alike part ss ts r t (λ v h l. e v h l .1) g)

@@ -2,7 +2,7 @@
 use mathlib.Core.Path.{_≡_}
 use Prim.Native.Nat.{ℕ, _+_, _*_, _<_, _≤_}
 use mathlib.Core.Bool.{cond}
-use mathlib.Core.List.{List}
+use mathlib.Core.List.{List, map}
 use lib.Dec.{eqb}
 use lib.ListN.{length, getD}
 use lib.Ieee.{Float}
@@ -18,6 +18,10 @@ stateOf part exits strengths q = record { partition = part; exits = exits; stren
 -- Of each node the lowest member of its group: kept beside the state.
 unfoldable pub Firsts : List ℕ → List ℕ → Type 0
 Firsts part first = (v : ℕ) → v < length part → getD first v 0 ≡ lowest (getD part v 0) part
+
+-- These as a list.
+abbrev pub firstsOf : List ℕ → List ℕ
+firstsOf part = map (λ g. lowest g part) part
 
 -- The table has a row for each of n nodes, at most 512.
 pub record Rows (table : List Float) (stride n : ℕ) : Type 0 where

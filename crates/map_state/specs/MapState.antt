@@ -36,7 +36,8 @@ count g (h ∷ hs) = let r = count g hs in cond (eqb h g) (suc r) r
 unfoldable pub leads : List ℕ → ℕ → Bool
 leads part v = eqb (lowest (getD part v 0) part) v
 
--- A group's exit weight, strength and number of nodes; an empty group's are 0.
+-- A group's exit weight, strength and number of nodes; an empty group's are 0. Sums are read at the nodes that lead a group and at no
+-- other: here (`stats-read` in map_state/proofs/Groups.antt) and in Q (`sumQ-ext` in whole/proofs/Carried.antt).
 unfoldable pub statsAt : List ℕ → List Float → List Float → ℕ → ModuleStats
 statsAt part exits strengths g = record { exit = getD exits (lowest g part) zero64; strength = getD strengths (lowest g part) zero64; «n_nodes» = count g part }
 
@@ -117,6 +118,9 @@ abbrev pub put : List ℕ → List Float → ℕ → Float → List Float
 put part xs g x = set xs (lowest g part) x
 
 -- `apply_move`: u moves to h, a group other than its own. The sums of a group that is emptied are forgotten; Q is summed anew.
+-- Where a group has got another lowest member, its old sums stay at a node that no longer leads: they are never read (see `statsAt`),
+-- and of every group with a member the sums are those of a table by group number (`exit-to`, `exit-from`, `exit-other` and the
+-- same of `strength` in map_state/proofs/Groups.antt).
 unfoldable pub applyMove : Network → MapState → ℕ → ℕ → MapState
 applyMove net s u h =
     let g = getD (s .partition) u 0 in

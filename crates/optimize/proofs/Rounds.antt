@@ -1,5 +1,5 @@
 -- A round from its parts, and the rounds one after the other. Assumes nothing.
-use mathlib.Core.Path.{_≡_, refl, ap, _∙_}
+use mathlib.Core.Path.{_≡_, refl, sym, ap, _∙_}
 use mathlib.Core.Bool.{Bool, true, false}
 use mathlib.Core.List.{List}
 use Prim.Native.Nat.{ℕ, zero, suc, _+_, _-_, _<_, _≤_}
@@ -7,11 +7,11 @@ use native.Mathlib.Omega.{arith}
 use lib.ListN.{length}
 use Rattle.map_state.specs.Network.{Network}
 use Rattle.scan.specs.Scan.{scan, isolate}
-use Rattle.rng.specs.Rng.{shuffle}
+use Rattle.rng.specs.Rng.{Shuffled, shuffle, order}
 use Rattle.lists.specs.Lists.{upto}
 -- Named so that the examples are checked before these lemmas.
 use Rattle.optimize.specs.Examples
-use Rattle.optimize.specs.Rounds.{Pass, Run, pass, round, runRounds, AtMost}
+use Rattle.optimize.specs.Rounds.{Pass, Run, pass, round, runRounds, visits, lastVisitsFrom, AtMost}
 use Rattle.rng.proofs.Visits.{order-length}
 use Rattle.optimize.proofs.Numbers.{move-pass-at-most, isolation-pass-at-most}
 
@@ -57,3 +57,26 @@ run-at-most b n r e f = rw e (round-at-most b n r f)
 
 pub run-counts : (n : Network) (r : Run) {s : Run} → s ≡ round n r → s .rounds ≡ r .rounds + 1
 run-counts n r e = ap (λ (q : Run). q .rounds) e ∙ round-counts n r
+
+-- ---- the order of visiting
+
+pub visits-is : (n : Network) (r : Run) {k x : ℕ} {o : List ℕ} → k ≡ length (n .strength) → order (r .rng) k ≡ record { list = o; rng = x } → o ≡ visits n r
+visits-is n r p e = sym (ap (λ (s : Shuffled). s .list) e) ∙ ap (λ (z : ℕ). order (r .rng) z .list) p
+
+pub visits-on : (n : Network) (k : ℕ) (b c : Bool) (r : Run) (o : List ℕ) {s : Run} {o' : List ℕ} → 0 < k → b ≡ true → s ≡ round n r → c ≡ s .moved → o' ≡ visits n r
+    → lastVisitsFrom n (k - 1) c s o' ≡ lastVisitsFrom n k b r o
+unfolding lastVisitsFrom
+visits-on n zero b c r o h p q e v = absurd (omega arith)
+visits-on n (suc k) b c r o h p q e v =
+    let m : suc k - 1 ≡ k = omega arith in
+    rw (v, e, q, p, m)
+
+pub visits-rest : (n : Network) (k : ℕ) (b : Bool) (r : Run) (o : List ℕ) → 0 < k → b ≡ false → o ≡ lastVisitsFrom n k b r o
+unfolding lastVisitsFrom
+visits-rest n zero b r o h p = absurd (omega arith)
+visits-rest n (suc k) b r o h p = rw p
+
+pub visits-end : (n : Network) (k : ℕ) (b : Bool) (r : Run) (o : List ℕ) → k ≤ 0 → o ≡ lastVisitsFrom n k b r o
+unfolding lastVisitsFrom
+visits-end n zero b r o h = refl
+visits-end n (suc k) b r o h = absurd (omega arith)

@@ -13,7 +13,7 @@ use Rattle.map_state.specs.Network.{Network}
 use Rattle.map_state.specs.MapState.{MapState, lowest}
 use Rattle.map_state.specs.Arrays.{Firsts}
 use Rattle.codelength.specs.Codelength.{fromPartition}
-use Rattle.optimize.specs.Rounds.{Run, runRounds, optimizePartition, AtMost}
+use Rattle.optimize.specs.Rounds.{Run, runRounds, optimizePartition, lastVisitsFrom, lastVisits, AtMost}
 
 lowest-from : (i n v : ℕ) → v < n → lowest (i + v) (from i n) ≡ v
 unfolding from lowest
@@ -50,3 +50,9 @@ at-most-filled n h p = rw p (at-most-upto n h)
 pub optimize-partition-is : (n : Network) (x k : ℕ) {part : List ℕ} {s : MapState} {r : Run} → k ≡ length (n .strength) → part ≡ upto k → s ≡ fromPartition n part → r ≡ runRounds n 100 true (record { state = s; rng = x; rounds = 0; moved = true }) → r ≡ optimizePartition n x
 unfolding optimizePartition
 optimize-partition-is n x k h p q e = e ∙ rw (q, p, h)
+
+-- there is a first round, so what the slice held before it does not matter
+pub last-visits-is : (n : Network) (x k : ℕ) (o : List ℕ) {part o' : List ℕ} {s : MapState} → k ≡ length (n .strength) → part ≡ upto k → s ≡ fromPartition n part
+    → o' ≡ lastVisitsFrom n 100 true (record { state = s; rng = x; rounds = 0; moved = true }) o → o' ≡ lastVisits n x
+unfolding lastVisits lastVisitsFrom
+last-visits-is n x k o h p q e = e ∙ rw (q, p, h)

@@ -1,4 +1,5 @@
 -- Passes over an order of visiting, rounds, and a trial (`optimize_partition`). Definitions only.
+use mathlib.Core.Path.{_≡_}
 use Prim.Native.Nat.{ℕ, zero, suc, _+_, _<_, _≤_}
 use mathlib.Core.Bool.{Bool, true, false}
 use mathlib.Core.List.{List, [], _∷_}
@@ -8,7 +9,7 @@ use Rattle.rng.specs.Rng.{order}
 use Rattle.lists.specs.Lists.{upto}
 use Rattle.map_state.specs.Network.{Network}
 use Rattle.map_state.specs.MapState.{MapState, applyMove}
-use Rattle.map_state.specs.Arrays.{stateOf}
+use Rattle.map_state.specs.Arrays.{stateOf, firstsOf}
 use Rattle.codelength.specs.Codelength.{fromPartition}
 use Rattle.scan.specs.Scan.{Answer, noMove, move, scan, isolate}
 use Rattle.optimize.specs.declared.PassState.{PassState}
@@ -56,9 +57,29 @@ runRounds net zero b r = r
 runRounds net (suc k) false r = r
 runRounds net (suc k) true r = let s = round net r in runRounds net k (s .moved) s
 
--- `optimize_partition`: a trial from the generator's state x, each node in a group of its own at first; at most 100 rounds.
+-- A trial before its first round: each node in a group of its own.
+abbrev pub started : Network → ℕ → Run
+started net x = record { state = fromPartition net (upto (length (net .strength))); rng = x; rounds = 0; moved = true }
+
+-- `optimize_partition`: a trial from the generator's state x; at most 100 rounds.
 unfoldable pub optimizePartition : Network → ℕ → Run
-optimizePartition net x = runRounds net 100 true (record { state = fromPartition net (upto (length (net .strength))); rng = x; rounds = 0; moved = true })
+optimizePartition net x = runRounds net 100 true (started net x)
+
+-- ---- the order of visiting
+
+-- The order in which a round visits the nodes.
+abbrev pub visits : Network → Run → List ℕ
+visits net r = order (r .rng) (length (net .strength)) .list
+
+-- That of the last of so many rounds; o where there is none.
+unfoldable pub lastVisitsFrom : Network → ℕ → Bool → Run → List ℕ → List ℕ
+lastVisitsFrom net zero b r o = o
+lastVisitsFrom net (suc k) false r o = o
+lastVisitsFrom net (suc k) true r o = let s = round net r in lastVisitsFrom net k (s .moved) s (visits net r)
+
+-- That of a trial's last round.
+unfoldable pub lastVisits : Network → ℕ → List ℕ
+lastVisits net x = lastVisitsFrom net 100 true (started net x) []
 
 -- ---- what the code's slices and structs stand for
 
@@ -67,6 +88,13 @@ passOf part exits strengths w = record { state = stateOf part exits strengths (w
 
 abbrev pub runOf : List ℕ → List Float → List Float → RunState → Run
 runOf part exits strengths t = record { state = stateOf part exits strengths (t .q); rng = t .rng; rounds = t .rounds; moved = t .moved }
+
+-- How the slices of a trial from the generator's state x end, with its answer t: the partition and the sums are those of the run, `first`
+-- is of each node the lowest member of its group, and `order` is the last round's.
+pub record TrialEnds (net : Network) (x : ℕ) (part first : List ℕ) (exits strengths : List Float) (order : List ℕ) (t : RunState) : Type 0 where
+  pub run : runOf part exits strengths t ≡ optimizePartition net x
+  pub firsts : first ≡ firstsOf part
+  pub visited : order ≡ lastVisits net x
 
 -- No group's internal number is above b.
 unfoldable pub AtMost : ℕ → List ℕ → Type 0

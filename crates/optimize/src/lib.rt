@@ -9,7 +9,7 @@ ghost use lib.ListN.{length, getD};
 ghost use Rattle.rng.specs.Rng.{Below};
 ghost use Rattle.map_state.specs.Arrays.{netOf, stateOf, Firsts, Sized};
 ghost use Rattle.scan.specs.Scan.{answerOf};
-ghost use Rattle.optimize.specs.Rounds.{act, movePass, isolationPass, round, runRounds, optimizePartition, passOf, runOf, AtMost};
+ghost use Rattle.optimize.specs.Rounds.{act, movePass, isolationPass, round, runRounds, passOf, runOf, AtMost, visits, lastVisitsFrom, TrialEnds};
 
 // Q, and whether a node has changed its group.
 pub struct PassState {
@@ -182,7 +182,7 @@ fn round(
     t: RunState,
 ) -> RunState
     requires { ⌜ (Sized (now table) stride (now strength) (now partition) (now first) (now exits) (now strengths)) × (Firsts (now partition) (now first)) × (length (now order) ≡ length (now partition)) × (AtMost 800000 (now partition)) × (t .rounds < 1000) ⌝ }
-    ensures { λ r. ⌜ (runOf (now (partition .exit)) (now (exits .exit)) (now (strengths .exit)) r ≡ round (netOf (now (table .entry)) stride (now (strength .entry)) d) (runOf (now (partition .entry)) (now (exits .entry)) (now (strengths .entry)) t)) × Firsts (now (partition .exit)) (now (first .exit)) ⌝ }
+    ensures { λ r. ⌜ (runOf (now (partition .exit)) (now (exits .exit)) (now (strengths .exit)) r ≡ round (netOf (now (table .entry)) stride (now (strength .entry)) d) (runOf (now (partition .entry)) (now (exits .entry)) (now (strengths .entry)) t)) × (Firsts (now (partition .exit)) (now (first .exit))) × (now (order .exit) ≡ visits (netOf (now (table .entry)) stride (now (strength .entry)) d) (runOf (now (partition .entry)) (now (exits .entry)) (now (strengths .entry)) t)) ⌝ }
 {
     let rng = rng::draw_order(order, t.rng);
     let w = move_pass(
@@ -234,7 +234,7 @@ fn run_rounds(
     start: RunState,
 ) -> RunState
     requires { ⌜ (Sized (now table) stride (now strength) (now partition) (now first) (now exits) (now strengths)) × (Firsts (now partition) (now first)) × (length (now order) ≡ length (now partition)) × (AtMost 512 (now partition)) × (start .rounds ≡ 0) ⌝ }
-    ensures { λ r. ⌜ (runOf (now (partition .exit)) (now (exits .exit)) (now (strengths .exit)) r ≡ runRounds (netOf (now (table .entry)) stride (now (strength .entry)) d) 100 true (runOf (now (partition .entry)) (now (exits .entry)) (now (strengths .entry)) start)) × Firsts (now (partition .exit)) (now (first .exit)) ⌝ }
+    ensures { λ r. ⌜ (runOf (now (partition .exit)) (now (exits .exit)) (now (strengths .exit)) r ≡ runRounds (netOf (now (table .entry)) stride (now (strength .entry)) d) 100 true (runOf (now (partition .entry)) (now (exits .entry)) (now (strengths .entry)) start)) × (Firsts (now (partition .exit)) (now (first .exit))) × (now (order .exit) ≡ lastVisitsFrom (netOf (now (table .entry)) stride (now (strength .entry)) d) 100 true (runOf (now (partition .entry)) (now (exits .entry)) (now (strengths .entry)) start) (now (order .entry))) ⌝ }
 {
     let mut t = start;
     let mut more = true;
@@ -261,7 +261,7 @@ fn run_rounds(
     t
 }
 
-// A trial from the generator's state `rng`: its partition is left in `partition`.
+// A trial from the generator's state `rng`: its partition is left in `partition`, with its sums; what the slices held before is not read.
 pub fn optimize_partition(
     table: &[f64],
     stride: usize,
@@ -275,7 +275,7 @@ pub fn optimize_partition(
     rng: u64,
 ) -> RunState
     requires { ⌜ (Sized (now table) stride (now strength) (now partition) (now first) (now exits) (now strengths)) × (length (now order) ≡ length (now partition)) ⌝ }
-    ensures { λ r. ⌜ (runOf (now (partition .exit)) (now (exits .exit)) (now (strengths .exit)) r ≡ optimizePartition (netOf (now (table .entry)) stride (now (strength .entry)) d) rng) × Firsts (now (partition .exit)) (now (first .exit)) ⌝ }
+    ensures { λ r. ⌜ TrialEnds (netOf (now (table .entry)) stride (now (strength .entry)) d) rng (now (partition .exit)) (now (first .exit)) (now (exits .exit)) (now (strengths .exit)) (now (order .exit)) r ⌝ }
 {
     rng::fill(partition);
     rng::fill(first);

@@ -33,7 +33,7 @@ returns c =
     let c9 = c9 in
     let c18 = c9 .before .before .before .before .before .before .before .before .before in
     let a = c18 .args in
-    codelength-is (netOf (a .table .now) (a .stride) (a .strength .now) (a .d)) (a .partition .now) (c9 .sum-modules .ensures (a .d)) (c .before .before .sum-terms .ensures) (c .before .node-plogp-sum .ensures) (c .codelength-of .ensures)
+    (codelength-is (netOf (a .table .now) (a .stride) (a .strength .now) (a .d)) (a .partition .now) (c9 .sum-modules .ensures (a .d)) (c .before .before .sum-terms .ensures) (c .before .node-plogp-sum .ensures) (c .codelength-of .ensures), c9 .sum-modules .ensures (a .d))
 
 pub map-equation-spec : {M : Type 1} → statement M
 map-equation-spec =

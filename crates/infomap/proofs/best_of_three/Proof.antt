@@ -6,6 +6,7 @@ use native.Mathlib.Omega.{arith}
 use Prim.Native.Nat.{ℕ}
 use lib.ListN.{length}
 use Rattle.map_state.specs.Arrays.{netOf, Sized}
+use Rattle.map_state.proofs.Leaders.{list-firsts}
 use Rattle.optimize.specs.Rounds.{Run, optimizePartition}
 use Rattle.lists.specs.Lists.{upto}
 use Rattle.float.specs.Binary64.{infinity64}
@@ -62,7 +63,7 @@ keep-requires c κs =
     let a = c35 .args in
     let l = c22 .loop in (
       sized-kept (a .table .now) (a .stride) (a .strength .now) (l .partition) (l .first) (l .exits) (l .strengths) (c15 .optimize-partition .last .1 .1 .1 .1 .0) (c15 .optimize-partition .last .1 .1 .1 .1 .1 .0) (c15 .optimize-partition .last .1 .1 .1 .1 .1 .1 .0) (c15 .optimize-partition .last .1 .1 .1 .1 .1 .1 .1 .0) (l .inv .1) (c15 .optimize-partition .kept .1 .1 .1 .1 .0) (c15 .optimize-partition .kept .1 .1 .1 .1 .1 .0) (c15 .optimize-partition .kept .1 .1 .1 .1 .1 .1 .0) (c15 .optimize-partition .kept .1 .1 .1 .1 .1 .1 .1 .0),
-      c15 .optimize-partition .ensures .1,
+      list-firsts _ _ (c15 .optimize-partition .ensures .firsts),
       l .inv .7 ∙ c25 .fill .kept .0 ∙ c35 .pre .2 ∙ sym (l .inv .2) ∙ sym (c15 .optimize-partition .kept .1 .1 .1 .1 .0),
     )
 
@@ -87,7 +88,7 @@ loop-again c =
     let c42 = c29 .before .before .before .before .before .before .before .before .before .before .before .before .before in
     let a = c42 .args in
     let l = c29 .loop in
-    let e = c22 .optimize-partition .ensures .0 in (
+    let e = c22 .optimize-partition .ensures .run in (
       trials-on (netOf (a .table .now) (a .stride) (a .strength .now) (a .d)) (l .left) (l .x) (groupingOf (l .best) (l .k)) (c28 .loop-test .taken) (ap (λ (r : Run). r .rng) e)
           (c6 .keep .ensures (optimizePartition (netOf (a .table .now) (a .stride) (a .strength .now) (a .d)) (l .x)) (sym (ap (λ (r : Run). r .state .partition) e)) (sym (ap (λ (r : Run). r .rounds) e)) (sym (ap (λ (r : Run). r .moved) e))) ∙ l .inv .0,
       sized-kept (a .table .now) (a .stride) (a .strength .now) (l .partition) (l .first) (l .exits) (l .strengths) (c22 .optimize-partition .last .1 .1 .1 .1 .0) (c22 .optimize-partition .last .1 .1 .1 .1 .1 .0) (c6 .keep .last .1 .1 .1 .1 .1 .1 .0) (c6 .keep .last .1 .1 .1 .1 .1 .1 .1 .0) (l .inv .1) (c22 .optimize-partition .kept .1 .1 .1 .1 .0) (c22 .optimize-partition .kept .1 .1 .1 .1 .1 .0) (c6 .keep .kept .1 .1 .1 .1 .1 .1 .0 ∙ c22 .optimize-partition .kept .1 .1 .1 .1 .1 .1 .0) (c6 .keep .kept .1 .1 .1 .1 .1 .1 .1 .0 ∙ c22 .optimize-partition .kept .1 .1 .1 .1 .1 .1 .1 .0),

@@ -34,7 +34,7 @@ returns c =
     let c10 = c5 .before .before .before .before .before in
     let c20 = c10 .before .before .before .before .before .before .before .before .before .before in
     let a = c20 .args in
-    λ s p q r. keep-yes (netOf (a .table .now) (a .stride) (a .strength .now) (a .d)) (groupingOf (a .best .now) (a .k)) s p (c10 .map-equation .ensures) q r (c5 .if1 .taken) (c .before .before .before .copy .ensures) (c .trial-mark .ensures)
+    λ s p q r. keep-yes (netOf (a .table .now) (a .stride) (a .strength .now) (a .d)) (groupingOf (a .best .now) (a .k)) s p (c10 .map-equation .ensures .0) q r (c5 .if1 .taken) (c .before .before .before .copy .ensures) (c .trial-mark .ensures)
 
 same-length-4 : tie.Need-same-length-4
 same-length-4 c = search needs
@@ -47,7 +47,7 @@ returns-2 c =
     let c5 = c .before .before .before .before .before in
     let c15 = c5 .before .before .before .before .before .before .before .before .before .before in
     let a = c15 .args in
-    λ s p q r. keep-no (netOf (a .table .now) (a .stride) (a .strength .now) (a .d)) (groupingOf (a .best .now) (a .k)) s p (c5 .map-equation .ensures) (c .if1 .left)
+    λ s p q r. keep-no (netOf (a .table .now) (a .stride) (a .strength .now) (a .d)) (groupingOf (a .best .now) (a .k)) s p (c5 .map-equation .ensures .0) (c .if1 .left)
 
 pub keep-spec : {M : Type 1} → statement M
 keep-spec =

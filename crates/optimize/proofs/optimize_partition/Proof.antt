@@ -2,9 +2,10 @@
 use mathlib.Core.Path.{refl, sym, _∙_, ap}
 use lib.ListN.{length}
 use Rattle.map_state.specs.Arrays.{netOf}
+use Rattle.map_state.proofs.Leaders.{firsts-list}
 use Rattle.lists.specs.Lists.{upto}
 use Rattle.optimize.proofs.Passes.{sized-kept}
-use Rattle.optimize.proofs.Start.{firsts-filled, at-most-filled, optimize-partition-is}
+use Rattle.optimize.proofs.Start.{firsts-filled, at-most-filled, optimize-partition-is, last-visits-is}
 use borrow.Author.Needs.{needs}
 use Rattle.optimize.proofs.optimize_partition.Statement.{statement}
 use Rattle.optimize.proofs.optimize_partition.Tie as tie
@@ -66,10 +67,13 @@ returns c =
     let c20 = c10 .before .before .before .before .before .before .before .before .before .before in
     let c31 = c20 .before .before .before .before .before .before .before .before .before .before .before in
     let c40 = c31 .before .before .before .before .before .before .before .before .before in
-    let a = c40 .args in (
-      optimize-partition-is (netOf (a .table .now) (a .stride) (a .strength .now) (a .d)) (a .rng) (length (a .partition .now)) (sym (c40 .pre .0 .nodes)) (c31 .fill .ensures) (c20 .from-partition .ensures) (c10 .run-rounds .ensures .0),
-      c10 .run-rounds .ensures .1,
-    )
+    let c27 = c20 .before .before .before .before .before .before .before in
+    let a = c40 .args in
+    let n = netOf (a .table .now) (a .stride) (a .strength .now) (a .d) in record {
+      run = optimize-partition-is n (a .rng) (length (a .partition .now)) (sym (c40 .pre .0 .nodes)) (c31 .fill .ensures) (c20 .from-partition .ensures) (c10 .run-rounds .ensures .0);
+      firsts = firsts-list _ _ (c10 .run-rounds .kept .1 .1 .1 .1 .1 .0 ∙ c27 .fill2 .kept .0 ∙ c40 .pre .0 .firsts ∙ sym (c10 .run-rounds .kept .1 .1 .1 .1 .0 ∙ c31 .fill .kept .0)) (c10 .run-rounds .ensures .1);
+      visited = last-visits-is n (a .rng) (length (a .partition .now)) (a .order .now) (sym (c40 .pre .0 .nodes)) (c31 .fill .ensures) (c20 .from-partition .ensures) (c10 .run-rounds .ensures .2);
+    }
 
 pub optimize-partition-spec : {M : Type 1} → statement M
 optimize-partition-spec =

@@ -10,7 +10,7 @@ use Rattle.optimize.specs.Rounds.{passOf, runOf}
 use Rattle.rng.proofs.Visits.{drawn-below}
 use Rattle.optimize.proofs.Passes.{sized-kept}
 use Rattle.optimize.proofs.Numbers.{at-most-more}
-use Rattle.optimize.proofs.Rounds.{round-is, moved-at-most}
+use Rattle.optimize.proofs.Rounds.{round-is, moved-at-most, visits-is}
 use borrow.Author.Needs.{needs}
 use Rattle.optimize.proofs.round.Statement.{statement}
 use Rattle.optimize.proofs.round.Tie as tie
@@ -78,6 +78,7 @@ returns c =
     let a = c40 .args in (
       round-is (netOf (a .table .now) (a .stride) (a .strength .now) (a .d)) (runOf (a .partition .now) (a .exits .now) (a .strengths .now) (a .t)) (c40 .pre .2 ∙ sym (c40 .pre .0 .nodes)) (c31 .draw-order .ensures) (c23 .move-pass .ensures .0) (c9 .isolation-pass .ensures .0),
       c9 .isolation-pass .ensures .1,
+      visits-is (netOf (a .table .now) (a .stride) (a .strength .now) (a .d)) (runOf (a .partition .now) (a .exits .now) (a .strengths .now) (a .t)) (c40 .pre .2 ∙ sym (c40 .pre .0 .nodes)) (c31 .draw-order .ensures),
     )
 
 pub round-spec : {M : Type 1} → statement M

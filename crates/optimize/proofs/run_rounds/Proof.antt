@@ -6,15 +6,15 @@ use native.Mathlib.Omega.{arith}
 use Prim.Native.Nat.{_+_, _*_, _≤_}
 use lib.ListN.{length}
 use Rattle.map_state.specs.Arrays.{netOf, Firsts, Sized}
-use Rattle.optimize.specs.Rounds.{runOf, runRounds, AtMost}
+use Rattle.optimize.specs.Rounds.{runOf, runRounds, lastVisitsFrom, AtMost}
 use Rattle.optimize.proofs.Passes.{sized-kept}
 use Rattle.optimize.proofs.Numbers.{at-most-more}
-use Rattle.optimize.proofs.Rounds.{rounds-on, rounds-rest, rounds-end, run-at-most, run-counts}
+use Rattle.optimize.proofs.Rounds.{rounds-on, rounds-rest, rounds-end, run-at-most, run-counts, visits-on, visits-rest, visits-end}
 use Rattle.optimize.proofs.run_rounds.Statement.{statement}
 use Rattle.optimize.proofs.run_rounds.Tie as tie
 
 abbrev Inv-loop : tie.InvT-loop
-Inv-loop table m strength d part₀ first₀ exits₀ strengths₀ order₀ t₀ more₀ left₀ part first exit strengths order t more left = (runRounds (netOf table m strength d) left more (runOf part exit strengths t) ≡ runRounds (netOf table m strength d) 100 true (runOf part₀ exits₀ strengths₀ t₀)) × (Sized table m strength part first exit strengths) × (Firsts part first) × (length part ≡ length part₀) × (length first ≡ length first₀) × (length exit ≡ length exits₀) × (length strengths ≡ length strengths₀) × (length order ≡ length order₀) × (t .rounds + left ≡ 100) × (AtMost (512 + 512 * t .rounds) part)
+Inv-loop table m strength d part₀ first₀ exits₀ strengths₀ order₀ t₀ more₀ left₀ part first exit strengths order t more left = (runRounds (netOf table m strength d) left more (runOf part exit strengths t) ≡ runRounds (netOf table m strength d) 100 true (runOf part₀ exits₀ strengths₀ t₀)) × (Sized table m strength part first exit strengths) × (Firsts part first) × (length part ≡ length part₀) × (length first ≡ length first₀) × (length exit ≡ length exits₀) × (length strengths ≡ length strengths₀) × (length order ≡ length order₀) × (t .rounds + left ≡ 100) × (AtMost (512 + 512 * t .rounds) part) × (lastVisitsFrom (netOf table m strength d) left more (runOf part exit strengths t) order ≡ lastVisitsFrom (netOf table m strength d) 100 true (runOf part₀ exits₀ strengths₀ t₀) order₀)
 
 abbrev μ-loop : tie.MeasureT-loop
 μ-loop table m strength d part₀ first₀ exits₀ strengths₀ order₀ t₀ more₀ left₀ part first exit strengths order t more left = left
@@ -22,7 +22,7 @@ abbrev μ-loop : tie.MeasureT-loop
 loop-holds : tie.Need-loop-holds Inv-loop μ-loop
 loop-holds c =
     let c7 = c .before .before .before .before .before .before .before in
-    (refl, c7 .pre .0, c7 .pre .1, refl, refl, refl, refl, refl, omega (arith, c7 .pre .4), at-most-more 512 _ (c7 .args .partition .now) (omega arith) (c7 .pre .3))
+    (refl, c7 .pre .0, c7 .pre .1, refl, refl, refl, refl, refl, omega (arith, c7 .pre .4), at-most-more 512 _ (c7 .args .partition .now) (omega arith) (c7 .pre .3), refl)
 
 same-length : tie.Need-same-length Inv-loop μ-loop
 same-length c = c .before .before .loop .inv .3
@@ -44,8 +44,11 @@ returns c =
     let c10 = c .before .before .before .before .before .before .before .before .before .before in
     let c10 = c10 in
     let a = c10 .args in
-    let l = c .before .before .loop in
-    (rounds-rest (netOf (a .table .now) (a .stride) (a .strength .now) (a .d)) (l .left) (l .more) (runOf (l .partition) (l .exits) (l .strengths) (l .t)) (c .before .loop-test .taken) (not-true (l .more) (c .if1 .taken)) ∙ l .inv .0, l .inv .2)
+    let l = c .before .before .loop in (
+      rounds-rest (netOf (a .table .now) (a .stride) (a .strength .now) (a .d)) (l .left) (l .more) (runOf (l .partition) (l .exits) (l .strengths) (l .t)) (c .before .loop-test .taken) (not-true (l .more) (c .if1 .taken)) ∙ l .inv .0,
+      l .inv .2,
+      visits-rest (netOf (a .table .now) (a .stride) (a .strength .now) (a .d)) (l .left) (l .more) (runOf (l .partition) (l .exits) (l .strengths) (l .t)) (l .order) (c .before .loop-test .taken) (not-true (l .more) (c .if1 .taken)) ∙ l .inv .10,
+    )
 
 round-requires : tie.Need-round-requires Inv-loop μ-loop
 round-requires c κs =
@@ -90,6 +93,7 @@ loop-again c =
       c10 .round .kept .1 .1 .1 .1 .1 .1 .1 .1 .0 ∙ l .inv .7,
       omega (arith, l .inv .8, c17 .loop-test .taken),
       at-most-more (512 + 512 * l .t .rounds + length (a .strength .now)) _ (c10 .round .last .1 .1 .1 .1 .0) (omega arith) (run-at-most (512 + 512 * l .t .rounds) n r (c10 .round .ensures .0) (l .inv .9)),
+      visits-on n (l .left) (l .more) _ r (l .order) (c17 .loop-test .taken) (not-false (l .more) (c16 .if1 .left)) (c10 .round .ensures .0) refl (c10 .round .ensures .2) ∙ l .inv .10,
     )
 
 same-length-6 : tie.Need-same-length-6 Inv-loop μ-loop
@@ -112,8 +116,11 @@ returns-2 c =
     let c9 = c .before .before .before .before .before .before .before .before .before in
     let c9 = c9 in
     let a = c9 .args in
-    let l = c .before .loop in
-    (rounds-end (netOf (a .table .now) (a .stride) (a .strength .now) (a .d)) (l .left) (l .more) (runOf (l .partition) (l .exits) (l .strengths) (l .t)) (c .loop-test .left) ∙ l .inv .0, l .inv .2)
+    let l = c .before .loop in (
+      rounds-end (netOf (a .table .now) (a .stride) (a .strength .now) (a .d)) (l .left) (l .more) (runOf (l .partition) (l .exits) (l .strengths) (l .t)) (c .loop-test .left) ∙ l .inv .0,
+      l .inv .2,
+      visits-end (netOf (a .table .now) (a .stride) (a .strength .now) (a .d)) (l .left) (l .more) (runOf (l .partition) (l .exits) (l .strengths) (l .t)) (l .order) (c .loop-test .left) ∙ l .inv .10,
+    )
 
 pub run-rounds-spec : {M : Type 1} → statement M
 run-rounds-spec =
