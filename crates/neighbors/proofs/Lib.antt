@@ -4,6 +4,7 @@ pub mod Sighted
 pub mod Within
 pub mod Distinct
 pub mod Found
+pub mod Differ
 pub mod Cells
 pub mod Linked
 pub mod LinkWeights

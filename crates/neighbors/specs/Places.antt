@@ -1,6 +1,8 @@
 -- Distinct medians (document 01, "Distinct medians"). Definitions only.
-use Prim.Native.Nat.{ℕ, suc, _+_}
-use mathlib.Core.Bool.{Bool, _&&_, cond}
+use mathlib.Core.Path.{_≡_}
+use mathlib.Core.Logic.{_≢_}
+use Prim.Native.Nat.{ℕ, suc, _+_, _<_}
+use mathlib.Core.Bool.{Bool, false, _&&_, cond}
 use mathlib.Core.List.{List, [], _∷_, map}
 use lib.Dec.{leb}
 use lib.ListN.{length, getD, take}
@@ -52,6 +54,10 @@ noPlace = record { at = record { x = zero64; y = zero64 }; count = 0 }
 -- Place i.
 abbrev pub placeAt : List Place → ℕ → Place
 placeAt ps i = getD ps i noPlace
+
+-- Of any two of these points a bit pattern differs.
+abbrev pub AllDiffer : List Point → Type 0
+AllDiffer ps = (i j : ℕ) → i < length ps → j < length ps → i ≢ j → samePlace (getD ps i (noPlace .at)) (getD ps j (noPlace .at)) ≡ false
 
 -- All stays of all places.
 unfoldable pub stayCount : List Place → ℕ
