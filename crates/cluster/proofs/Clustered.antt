@@ -1,6 +1,6 @@
 -- The nodes' table as the grouping asks for it, and the labels of places from the grouping.
 use mathlib.Core.Path.{_≡_, sym, ap, ap₂, _∙_, subst}
-use mathlib.Core.Bool.{Bool, not}
+use mathlib.Core.Bool.{Bool}
 use mathlib.Core.List.{List, map}
 use Prim.Native.Nat.{ℕ, _-_, _*_, _<_, _≤_}
 use native.Mathlib.Nat.{mul-le-mul, sub-zero, le-trans}
@@ -9,7 +9,7 @@ use lib.IntN.{ℤ}
 use lib.ListN.{length, getD, take}
 use lib.Seq.{length-take-le}
 use lib.Ieee.{Float}
-use Rattle.lists.specs.Lists.{upto, select}
+use Rattle.lists.specs.Lists.{upto}
 use Rattle.neighbors.specs.Places.{Place}
 use Rattle.neighbors.specs.Links.{Metric, weight, linked, nodes, singles}
 use Rattle.neighbors.specs.Tables.{Tabled, Rising, Compacted, tableOf}
@@ -21,10 +21,11 @@ use Rattle.map_state.proofs.Leaders.{lowest-of}
 use Rattle.infomap.specs.Infomap.{Grouping, keptGrouping, runInfomap, relabelDense, groupingOf}
 use Rattle.infomap.specs.declared.Kept.{Kept}
 use Rattle.infomap.proofs.Labels.{rank-le}
-use Rattle.cluster.specs.Cluster.{nodeNetwork, labelCount, placeLabel, Clustering, cluster}
+use Rattle.cluster.specs.Cluster.{nodeNetwork, labelCount, placeLabel, labelsFrom, Clustering, cluster}
 use Rattle.cluster.specs.Slices.{clusteringOf}
 use Rattle.cluster.proofs.Relabelled.{relabel-at, relabel-long}
 use Rattle.cluster.proofs.LabelCount.{count-le}
+use Rattle.cluster.proofs.Walk.{labels-in-order}
 
 -- ---- the cells of k of n rows and columns
 
@@ -67,14 +68,18 @@ module _ (dist : Metric) (r2 : Float) (ps : List Place) where
       q ∙ ap (λ (x : List ℕ). network (tableOf (weight dist r2 ps) x) (length x) (length x)) e
 
   pub cluster-is : (single : Bool) (seed : ℕ) {ns gs : List ℕ} {labels : List ℤ} {m : ℕ} (r : Kept) → ns ≡ nodes dist r2 ps → m ≡ length ps → groupingOf gs r ≡ runInfomap (nodeNetwork dist r2 ps) seed
-      → ((f : ℕ → Bool) → ns ≡ select f (upto m) → labels ≡ map (placeLabel single ns (select (λ i. not (f i)) (upto m)) gs) (upto m)) → clusteringOf labels r ≡ cluster dist r2 single seed ps
+      → labels ≡ labelsFrom single ns gs 0 0 m → clusteringOf labels r ≡ cluster dist r2 single seed ps
   unfolding cluster nodes singles
   cluster-is single seed {ns} {gs} {labels} r e q g l =
-      ap (λ (z : List ℤ). clusteringOf z r) (written (linked dist r2 ps) e) ∙ ap answer g
+      ap (λ (z : List ℤ). clusteringOf z r) written ∙ ap answer g
     where
-      written : (f : ℕ → Bool) → ns ≡ select f (upto (length ps)) → labels ≡ map (placeLabel single (nodes dist r2 ps) (select (λ i. not (f i)) (upto (length ps))) gs) (upto (length ps))
-      written = subst (λ (x : List ℕ). (f : ℕ → Bool) → ns ≡ select f (upto (length ps)) → labels ≡ map (placeLabel single x (select (λ i. not (f i)) (upto (length ps))) gs) (upto (length ps))) e
-          (subst (λ (z : ℕ). (f : ℕ → Bool) → ns ≡ select f (upto z) → labels ≡ map (placeLabel single ns (select (λ i. not (f i)) (upto z)) gs) (upto z)) q l)
+      written : labels ≡ map (placeLabel single (nodes dist r2 ps) (singles dist r2 ps) gs) (upto (length ps))
+      written = unfold nodes singles in l ∙ rw (e, q) (labels-in-order (linked dist r2 ps) single gs (length ps))
 
       answer : Grouping → Clustering
-      answer k = record { labels = map (placeLabel single (nodes dist r2 ps) (singles dist r2 ps) (k .partition)) (upto (length ps)); mark = k .mark; rounds = k .rounds }
+      answer k = record {
+        labels = map (placeLabel single (nodes dist r2 ps) (singles dist r2 ps) (k .partition)) (upto (length ps));
+        mark = k .mark;
+        rounds = k .rounds;
+        codelength = k .codelength;
+      }

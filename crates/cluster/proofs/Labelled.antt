@@ -2,16 +2,17 @@
 use mathlib.Core.Path.{_≡_, refl, sym, ap, _∙_, subst}
 use mathlib.Core.Logic.{_↔_}
 use mathlib.Core.Bool.{Bool, true, false, cond}
-use mathlib.Core.List.{List}
-use Prim.Native.Nat.{ℕ, _+_, _<_, _≤_}
+use mathlib.Core.List.{List, [], _∷_, map}
+use Prim.Native.Nat.{ℕ, zero, suc, _+_, _<_, _≤_}
 use native.Mathlib.Omega.{arith}
 use borrow.Author.Tests.{eqb-true, eq-eqb}
 use lib.Dec.{eqb}
 use lib.IntN.{ℤ, pos, negsuc, pos-ne-negsuc}
 use lib.ListN.{length, getD}
 use lib.Ieee.{Float}
-use Rattle.lists.specs.Lists.{Has, member, position}
+use Rattle.lists.specs.Lists.{Has, upto, member, position}
 use Rattle.lists.proofs.Tests.{clash}
+use Rattle.lists.proofs.Upto.{length-upto, getD-upto}
 use Rattle.lists.proofs.Members.{member-has, has-member, position-lt, getD-position, position-injective}
 use Rattle.neighbors.specs.Places.{Place, stayCount}
 use Rattle.neighbors.specs.Links.{Metric, linked, nodes, singles}
@@ -27,10 +28,17 @@ use Rattle.cluster.specs.Cluster.{nodeNetwork, labelCount, placeLabel, c
 use Rattle.cluster.proofs.NodeNetwork.{node-size, node-both, way-chain}
 use Rattle.cluster.proofs.Relabelled.{relabel-long, relabel-alike}
 use Rattle.cluster.proofs.LabelCount.{label-lt}
-use Rattle.cluster.proofs.Walk.{map-upto}
 
 abbrev pub minusOne : ℤ
 minusOne = negsuc 0
+
+map-upto : (f : ℕ → ℤ) (d : ℤ) (n i : ℕ) → i < n → getD (map f (upto n)) i d ≡ f i
+map-upto f d n i h = at (upto n) i (subst (λ (z : ℕ). i < z) (sym (length-upto n)) h) ∙ ap f (getD-upto n i h)
+  where
+    at : (l : List ℕ) (i : ℕ) → i < length l → getD (map f l) i d ≡ f (getD l i 0)
+    at [] i q = absurd (omega arith)
+    at (x ∷ xs) zero q = refl
+    at (x ∷ xs) (suc i) q = at xs i (omega arith)
 
 pos-injective : (a b : ℕ) → pos a ≡ pos b → a ≡ b
 pos-injective a b e = cc
@@ -86,13 +94,13 @@ module _ (dist : Metric) (r2 : Float) (single : Bool) (seed : ℕ) (ps : List Pl
     part-joined : Joined (nodeNetwork dist r2 ps) (keptGrouping (nodeNetwork dist r2 ps) seed .partition)
     part-joined = kept-joined (nodeNetwork dist r2 ps) (node-both dist r2 ps c few stays) seed
 
-    abbrev part : List ℕ
+    abbrev pub part : List ℕ
     part = keptGrouping (nodeNetwork dist r2 ps) seed .partition
 
     pub part-long : length part ≡ length ns
     part-long = part-joined .long ∙ node-size dist r2 ps c few stays
 
-    labels-are : ls ≡ relabelDense part
+    pub labels-are : ls ≡ relabelDense part
     unfolding runInfomap
     labels-are = refl
 
@@ -111,10 +119,10 @@ module _ (dist : Metric) (r2 : Float) (single : Bool) (seed : ℕ) (ps : List Pl
         way-chain dist r2 ps c few stays
         (part-joined .ways u v (subst (λ (m : ℕ). u < m) (part-joined .long) hp) (subst (λ (m : ℕ). v < m) (part-joined .long) kp) same) h
 
-    node-below : (i : ℕ) → Has ns i → getD ls (position i ns) 0 < labelCount ls
+    pub node-below : (i : ℕ) → Has ns i → getD ls (position i ns) 0 < labelCount ls
     node-below i m = label-lt ls (position i ns) (subst (λ (z : ℕ). position i ns < z) (sym labels-long) (position-lt i ns m))
 
-    single-pos : (i l : ℕ) → i < length ps → linked dist r2 ps i ≡ false → labelOf i ≡ pos l → (l ≡ labelCount ls + position i ss)
+    pub single-pos : (i l : ℕ) → i < length ps → linked dist r2 ps i ≡ false → labelOf i ≡ pos l → (l ≡ labelCount ls + position i ss)
     single-pos i l h q e = go single (single-label i h q)
       where
         go : (s : Bool) → labelOf i ≡ cond s (pos (labelCount ls + position i ss)) minusOne → l ≡ labelCount ls + position i ss

@@ -5,6 +5,7 @@ pub mod AtRest
 pub mod LabelCount
 pub mod Before
 pub mod Walk
+pub mod NoGap
 pub mod Clustered
 pub mod FoundNodes
 pub mod NoneLabelled

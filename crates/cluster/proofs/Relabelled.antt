@@ -5,12 +5,11 @@ use mathlib.Core.List.{List, [], _∷_, map}
 use Prim.Native.Nat.{ℕ, zero, suc, _+_, _-_, _<_, _≤_}
 use native.Mathlib.Decide.{decLt}
 use native.Mathlib.Omega.{arith}
-use borrow.Author.Tests.{eq-eqb}
 use lib.ListN.{length, getD, length-map}
 use Rattle.lists.proofs.Tests.{eqb-like}
 use Rattle.map_state.specs.MapState.{lowest, leads}
 use Rattle.map_state.proofs.Leaders.{lowest-of}
-use Rattle.map_state.proofs.Groups.{lowest-at}
+use Rattle.map_state.proofs.Groups.{lowest-at, lowest-leads}
 use Rattle.infomap.specs.Infomap.{rank, relabelDense}
 use Rattle.whole.specs.Whole.{Alike}
 
@@ -34,12 +33,9 @@ rank-above part a b l h =
     one : rank part (suc a) ≡ suc (rank part a)
     one = unfold rank in ap (λ (t : Bool). cond t (suc (rank part a)) (rank part a)) l
 
--- The lowest member of a group with members leads it.
-lowest-leads : (part : List ℕ) (v : ℕ) → v < length part → leads part (lowest (getD part v 0) part) ≡ true
-unfolding leads
-lowest-leads part v h =
-    let a = lowest-of part v h in
-    eq-eqb (lowest (getD part (lowest (getD part v 0) part) 0) part) (lowest (getD part v 0) part) (ap (λ (z : ℕ). lowest z part) (lowest-at (getD part v 0) part (omega arith)))
+-- The lowest member of a node's group leads it.
+leads-of : (part : List ℕ) (v : ℕ) → v < length part → leads part (lowest (getD part v 0) part) ≡ true
+leads-of part v h = let a = lowest-of part v h in lowest-leads (getD part v 0) part (omega arith)
 
 -- Two nodes with one label are in one group.
 same-group : (part : List ℕ) (v x : ℕ) → v < length part → x < length part → rank part (lowest (getD part v 0) part) ≡ rank part (lowest (getD part x 0) part) → getD part v 0 ≡ getD part x 0
@@ -52,8 +48,8 @@ same-group part v x h k e = go (decLt a b) (decLt b a)
     b = lowest (getD part x 0) part
 
     go : Dec (a < b) → Dec (b < a) → getD part v 0 ≡ getD part x 0
-    go (yes p) q = absurd (let r = rank-above part a b (lowest-leads part v h) p in omega arith)
-    go (no p) (yes q) = absurd (let r = rank-above part b a (lowest-leads part x k) q in omega arith)
+    go (yes p) q = absurd (let r = rank-above part a b (leads-of part v h) p in omega arith)
+    go (no p) (yes q) = absurd (let r = rank-above part b a (leads-of part x k) q in omega arith)
     go (no p) (no q) =
         let s : a ≡ b = omega arith in
         let av = lowest-of part v h in

@@ -11,7 +11,7 @@ use Rattle.infomap.specs.declared.Kept.{Kept}
 use Rattle.cluster.specs.Cluster.{Clustering}
 
 abbrev pub clusteringOf : List ℤ → Kept → Clustering
-clusteringOf labels k = record { labels = labels; mark = markOf (k .mark); rounds = k .rounds }
+clusteringOf labels k = record { labels = labels; mark = markOf (k .mark); rounds = k .rounds; codelength = k .codelength }
 
 -- At most 512 places with a table of their pairs: each has a stay, and all have at most 65,536.
 pub record PlaceTable (xs ys : List Float) (cs : List ℕ) (t : List Float) : Type 0 where

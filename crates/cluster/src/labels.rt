@@ -1,13 +1,11 @@
 // Labels of places: those of the nodes, and the singles' behind them.
 ghost use mathlib.Core.Path.{_≡_};
-ghost use Prim.Native.Nat.{ℕ, suc, _+_, _-_, _<_, _≤_, max};
-ghost use mathlib.Core.Bool.{Bool, not, _&&_, cond};
-ghost use mathlib.Core.List.{map};
+ghost use Prim.Native.Nat.{suc, _+_, _≤_, max};
+ghost use mathlib.Core.Bool.{_&&_, cond};
 ghost use lib.Dec.{eqb, ltb};
 ghost use lib.IntN.{pos, negsuc};
 ghost use lib.ListN.{length, getD};
-ghost use Rattle.lists.specs.Lists.{upto, select};
-ghost use Rattle.cluster.specs.Cluster.{labelCount, placeLabel, noneLabelled};
+ghost use Rattle.cluster.specs.Cluster.{labelCount, labelsFrom, noneLabelled};
 
 fn wide(x: u32) -> usize
     ensures { λ r. ⌜ r ≡ x ⌝ }
@@ -83,11 +81,10 @@ fn next_if(node: bool, u: usize) -> usize
     u
 }
 
-// Writes the label of each place, where `nodes` are those places of which f holds, in place order, with the labels `groups`: u nodes and i - u singles
-// are before place i.
+// Writes the label of each place: those of `nodes`, in place order, have the labels `groups`; u nodes and i - u singles are before place i.
 pub fn label_places(nodes: &[u32], groups: &[u32], single: bool, labels: &mut [i32])
     requires { ⌜ (length (now labels) ≤ 512) × (labelCount (now groups) ≤ 512) ⌝ }
-    ensures { λ _. ⌜ ((f : ℕ → Bool) → now (nodes .entry) ≡ select f (upto (length (now (labels .entry)))) → now (labels .exit) ≡ map (placeLabel single (now (nodes .entry)) (select (λ i. not (f i)) (upto (length (now (labels .entry))))) (now (groups .entry))) (upto (length (now (labels .entry))))) ⌝ }
+    ensures { λ _. ⌜ now (labels .exit) ≡ labelsFrom single (now (nodes .entry)) (now (groups .entry)) 0 0 (length (now (labels .entry))) ⌝ }
 {
     let count = label_count(groups);
     let mut u = 0;

@@ -65,7 +65,7 @@ fn cluster_in(
     )
 }
 
-// The labels of the places, and the mark and the rounds of the kept trial. The table is work.
+// The labels of the places, and the mark, the rounds and the codelength of the kept trial. The table is work.
 pub fn cluster(
     xs: &[f64],
     ys: &[f64],

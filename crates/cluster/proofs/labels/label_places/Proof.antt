@@ -1,12 +1,10 @@
 -- `cluster::labels::label_places` meets its contract. The loop has labelled the places below i, u of them nodes.
 use mathlib.Core.Path.{_≡_, refl, _∙_}
-use mathlib.Core.Bool.{Bool}
-use Prim.Native.Nat.{ℕ, _-_, _≤_}
+use Prim.Native.Nat.{_-_, _≤_}
 use native.Mathlib.Omega.{arith}
 use lib.ListN.{length, length-set}
 use mir.Syntax.{w32}
 use mir.Facts.{toZ-ofZ}
-use Rattle.lists.specs.Lists.{upto, select}
 use Rattle.cluster.proofs.LabelCount.{label-le}
 use Rattle.cluster.proofs.Walk.{Walked, next-le, walk-start, walk-on, walk-end}
 use borrow.Author.Needs.{needs, sfits-of}
@@ -15,7 +13,7 @@ use Rattle.cluster.proofs.labels.label_places.Tie as tie
 
 abbrev Inv-loop : tie.InvT-loop
 Inv-loop nodes groups single labels₀ count u₀ i₀ labels u i =
-    (length labels ≡ length labels₀) × (u ≤ i) × (i ≤ length labels₀) × ((f : ℕ → Bool) → nodes ≡ select f (upto (length labels₀)) → Walked f single groups (length labels₀) labels u i)
+    (length labels ≡ length labels₀) × (u ≤ i) × (i ≤ length labels₀) × Walked single nodes groups labels (length labels₀) u i
 
 abbrev μ-loop : tie.MeasureT-loop
 μ-loop nodes groups single labels₀ count u₀ i₀ labels u i = length labels₀ - i
@@ -24,7 +22,7 @@ label-count-requires : tie.Need-label-count-requires Inv-loop μ-loop
 label-count-requires c κs = search needs
 
 loop-holds : tie.Need-loop-holds Inv-loop μ-loop
-loop-holds c = (refl, omega arith, omega arith, λ f e. walk-start f _ _ _ _)
+loop-holds c = (refl, omega arith, omega arith, walk-start _ _ _ _ _)
 
 is-node-requires : tie.Need-is-node-requires Inv-loop μ-loop
 is-node-requires c κs = search needs
@@ -67,7 +65,7 @@ loop-again c =
       simp length-set (l .inv .0),
       omega (arith, next-le (c .before .before .before .is-node .result) (l .u) (c .next-if .ensures), l .inv .1),
       omega arith,
-      λ f e. walk-on f _ _ _ _ _ _ (l .inv .3 f e) (omega arith) t e (c .before .before .before .is-node .ensures) (c .before .before .group-of .ensures) (c .before .before .before .before .before .before .label-count .ensures)
+      walk-on _ _ _ _ _ _ _ (l .inv .3) (omega arith) t (c .before .before .before .is-node .ensures) (c .before .before .group-of .ensures) (c .before .before .before .before .before .before .label-count .ensures)
           (toZ-ofZ {w = w32} (sfits-of {w = w32} (c .before .label-of .ok)) ∙ c .before .label-of .ensures) (c .next-if .ensures),
     )
 
@@ -77,7 +75,7 @@ same-length c = c .before .loop .inv .0
 returns : tie.Need-returns Inv-loop μ-loop
 returns c =
     let l = c .before .loop in
-    λ f e. rw e (walk-end f _ _ _ _ _ _ (l .inv .3 f e) (omega arith) (l .inv .0))
+    walk-end _ _ _ _ _ _ _ (l .inv .3) (omega arith) (l .inv .0)
 
 pub label-places-spec : {M : Type 1} → statement M
 label-places-spec =
