@@ -95,7 +95,7 @@ fix-count (n ∷ lens) fs e =
 
 -- ---- the whole fit
 module _ (c : Config) (xs ys times : List Float) (marks lens : List ℕ) (labels cap floats words : ℕ) (f : Fitted) where
-  abbrev ts : List (List Fix)
+  abbrev pub ts : List (List Fix)
   ts = traces lens (fixes xs ys times marks)
 
   -- What an accepted fit was given.
@@ -121,7 +121,7 @@ module _ (c : Config) (xs ys times : List Float) (marks lens : List ℕ) (labels
   unfolding checkTracks
   agreed e = lengths-agree lens (length xs) (length ys) (length times) (length marks) labels (turn-first (checkLengths lens (length xs) (length ys) (length times) (length marks) labels) _ e)
 
-  counted : checkTracks xs ys times marks lens labels cap floats words ≡ Accepted → Counted (length lens) (length xs) cap
+  pub counted : checkTracks xs ys times marks lens labels cap floats words ≡ Accepted → Counted (length lens) (length xs) cap
   unfolding checkTracks
   counted e = counts-few (length lens) (length xs) cap (turn-first (checkCounts (length lens) (length xs) cap) _ (turn-rest (checkLengths lens (length xs) (length ys) (length times) (length marks) labels) _ e))
 
@@ -132,7 +132,7 @@ module _ (c : Config) (xs ys times : List Float) (marks lens : List ℕ) (labels
     all-fixes : length (fixes xs ys times marks) ≡ length xs
     all-fixes = let g = agreed (a .tracks) in fixes-length xs ys times marks (g .ys-length) (g .times-length) (g .marks-length)
 
-    count-is : fixCount ts ≡ length xs
+    pub count-is : fixCount ts ≡ length xs
     count-is = fix-count lens (fixes xs ys times marks) (let g = agreed (a .tracks) in g .sum ∙ sym all-fixes) ∙ all-fixes
 
     -- Demand 3 of every accepted fit.

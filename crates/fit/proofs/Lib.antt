@@ -1,2 +1,3 @@
 pub mod Theorem
 pub mod Accepted
+pub mod FittedPlaces

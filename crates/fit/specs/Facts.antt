@@ -1,5 +1,6 @@
 -- Document 01's starred facts, proved together about the definitions by computing them.
 use mathlib.Core.Path.{_≡_, refl}
+use mathlib.Core.Bool.{true}
 use mathlib.Core.List.{[], _∷_}
 use lib.IntN.{pos}
 use lib.Ieee.{binary64, size, add, sub, mul, div, neg, lt, eq, le, ne, ofInt, ofBits, toBits, isNan}
@@ -32,7 +33,7 @@ use Rattle.tracks.specs.Traces.{finitePoint, finiteTime, checkFix, untimed, par
 use Rattle.tracks.specs.Tracks.{total, traces, sameLengths, checkLengths, checkCounts, checkWork, checkMark, checkContents, checkTracks}
 use Rattle.events.specs.FixLabels.{fixCount, allMedians, allLies, labelFor, fixLabels}
 use Rattle.fit.specs.Fit.{unlessNone, givenBy, fromPlaces, fromMedians, fitTraces, unlessRefused, fit}
-use Rattle.fit.specs.Tries.{at, timed, twice, fitOf, number, labels, told, placeCount}
+use Rattle.fit.specs.Tries.{at, timed, twice, fitOf, number, labels, told, placeCount, pairLinks}
 
 -- Of numbers.
 pub record NumberFacts : Type 0 where
@@ -63,7 +64,9 @@ pub record TrackFacts : Type 0 where
   -- Two traces of (0,0) twice: one place, all 0.
   pub one-place : placeCount (fitOf (twice (at 0 0) ∷ twice (at 0 0) ∷ [])) ≡ 1
   pub all-zero : told (fitOf (twice (at 0 0) ∷ twice (at 0 0) ∷ [])) ≡ labels (pos 0 ∷ pos 0 ∷ pos 0 ∷ pos 0 ∷ [])
-  -- (0,0) twice; (10,0) twice: linked, all 0.
+  -- (0,0) twice; (10,0) twice: two places, linked, all 0.
+  pub two-places : placeCount (fitOf (twice (at 0 0) ∷ twice (at 10 0) ∷ [])) ≡ 2
+  pub they-link : pairLinks (fitOf (twice (at 0 0) ∷ twice (at 10 0) ∷ [])) ≡ true
   pub linked-pair : told (fitOf (twice (at 0 0) ∷ twice (at 10 0) ∷ [])) ≡ labels (pos 0 ∷ pos 0 ∷ pos 0 ∷ pos 0 ∷ [])
 
 pub numbers : NumberFacts
@@ -71,4 +74,4 @@ numbers = record { root-25 = float-examples.root-25; root-2 = float-examples.roo
 
 pub tracks : TrackFacts
 unfolding size add sub mul div neg lt eq le ne ofInt ofBits toBits isNan from upto member position anyOf select finite sameBits root series lnOf shift ln plogp euclidean within inLimit timeOf fixes stayMedians lies samePlace sighted sightedAll places placeOf apart link weight linked nodes singles rowsOf tableOf nextU64 swap shuffleFrom shuffle row addWeights strengthsFrom totalFrom network lowest count leads statsAt sumQFrom sumQ addLink linkWeightsFrom afterMove moduleTerms modulePairDelta movedFrom deltaFrom deltaMove applyMove addExit exitFrom addNode addNodesFrom moduleSums fromPartition addModule termsFrom nodePlogpFrom codelengthOf codelength place candidates bestDelta better consider scanFrom scan highestFrom isolate act pass round runRounds optimizePartition trialMark keep trials bestOfThree keptGrouping rank relabelDense runInfomap nodeNetwork labelCount placeLabel cluster refuseIf firstOf inTurn eachOf eachFrom unusable checkTimeBounds checkConfig finitePoint finiteTime checkFix untimed partlyTimed above aboveFirst inTimeOrder checkTimes checkTrace checkFixSize checkSize total traces sameLengths checkLengths checkCounts checkWork checkMark checkContents checkTracks fixCount allMedians allLies labelFor fixLabels noneLabelled unlessNone givenBy fromPlaces fromMedians fitTraces unlessRefused fit
-tracks = record { near = refl; far = refl; one = refl; after-300 = refl; after-299 = refl; after-86400 = refl; one-place = refl; all-zero = refl; linked-pair = refl }
+tracks = record { near = refl; far = refl; one = refl; after-300 = refl; after-299 = refl; after-86400 = refl; one-place = refl; all-zero = refl; two-places = refl; they-link = refl; linked-pair = refl }

@@ -1,12 +1,14 @@
 -- Document 01's settings and tracks to try, in a form that reads like its list. Definitions only.
 use Prim.Native.Nat.{ℕ}
-use mathlib.Core.Bool.{true}
+use mathlib.Core.Bool.{Bool, true, false}
 use mathlib.Core.List.{List, [], _∷_, _++_, map}
 use mathlib.Core.Option.{Option, none, some}
 use lib.IntN.{ℤ}
 use lib.ListN.{length}
 use lib.Ieee.{Float}
 use Rattle.float.specs.Binary64.{whole64, zero64}
+use Rattle.distance.specs.Distance.{euclidean}
+use Rattle.neighbors.specs.Links.{link}
 use Rattle.tracks.specs.declared.config.Config.{Config}
 use Rattle.tracks.specs.Refusals.{numberOf}
 use Rattle.fit.specs.Fit.{Outcome, refused, fitted, fit}
@@ -65,3 +67,8 @@ told (fitted f) = labels (f .labels)
 abbrev pub placeCount : Outcome → ℕ
 placeCount (refused e) = 0
 placeCount (fitted f) = length (f .places)
+
+-- Whether the places 0 and 1 link.
+abbrev pub pairLinks : Outcome → Bool
+pairLinks (refused e) = false
+pairLinks (fitted f) = link euclidean (settings .r2) (f .places) 0 1
