@@ -5,3 +5,4 @@ pub mod Stays
 pub mod Placed
 pub mod Ending
 pub mod Promises
+pub mod FittedModel
