@@ -4,8 +4,10 @@ use mathlib.Core.List.{List, map}
 use Prim.Native.Nat.{ℕ, _≤_}
 use native.Mathlib.Nat.{le-trans}
 use native.Mathlib.Omega.{arith}
-use lib.ListN.{length}
+use lib.ListN.{length, length-map}
 use lib.Ieee.{Float}
+use Rattle.lists.specs.Lists.{upto}
+use Rattle.lists.proofs.Upto.{length-upto}
 use Rattle.distance.specs.declared.Point.{Point}
 use Rattle.distance.specs.Distance.{euclidean}
 use Rattle.stay.specs.Trace.{Fix}
@@ -13,7 +15,7 @@ use Rattle.neighbors.specs.Places.{Place, places, AllDiffer}
 use Rattle.neighbors.specs.Links.{Metric}
 use Rattle.neighbors.proofs.Found.{counted, all-counted}
 use Rattle.neighbors.proofs.Differ.{places-differ}
-use Rattle.cluster.specs.Cluster.{NoGap}
+use Rattle.cluster.specs.Cluster.{cluster, NoGap}
 use Rattle.cluster.proofs.NoGap.{no-gap}
 use Rattle.tracks.specs.declared.config.Config.{Config}
 use Rattle.events.specs.FixLabels.{fixCount, allMedians}
@@ -37,6 +39,11 @@ module _ (dist : Metric) (c : Config) (cap : ℕ) (ts : List (List Fix)) (f : Fi
   traces-differ : AllDiffer (map (λ (p : Place). p .at) (f .places))
   unfolding givenBy
   traces-differ = subst (λ (z : Fitted). AllDiffer (map (λ (p : Place). p .at) (z .places))) (sym (a.traces-done dist c cap ts f e .is)) (places-differ ms)
+
+  -- Each place has a label.
+  traces-place-labels : length (f .placeLabels) ≡ length (f .places)
+  unfolding givenBy cluster
+  traces-place-labels = subst (λ (z : Fitted). length (z .placeLabels) ≡ length (z .places)) (sym (a.traces-done dist c cap ts f e .is)) (length-map (upto (length (places ms))) _ ∙ length-upto (length (places ms)))
 
 module _ (c : Config) (xs ys times : List Float) (marks lens : List ℕ) (labels cap floats words : ℕ) (f : Fitted) (e : fit c xs ys times marks lens labels cap floats words ≡ fitted f) where
   done : a.AcceptedFit c xs ys times marks lens labels cap floats words f
@@ -62,3 +69,7 @@ module _ (c : Config) (xs ys times : List Float) (marks lens : List ℕ) (labels
   fit-places-few =
       let d = a.traces-done euclidean c cap (a.ts c xs ys times marks lens labels cap floats words f) f (done .fits) in
       subst (λ (z : Fitted). length (z .places) ≤ 512) (sym (d .is)) (le-trans (d .few) few)
+
+  -- Each has a label.
+  pub fit-place-labels : length (f .placeLabels) ≡ length (f .places)
+  fit-place-labels = traces-place-labels euclidean c cap (a.ts c xs ys times marks lens labels cap floats words f) f (done .fits)

@@ -19,14 +19,14 @@ use Rattle.neighbors.specs.Places.{Place, placeOf, places, stayCount}
 use Rattle.neighbors.specs.Links.{Metric, link, linked, nodes}
 use Rattle.neighbors.specs.Chains.{Chain}
 use Rattle.neighbors.proofs.Found.{Counted, counted, placed, all-counted}
-use Rattle.neighbors.proofs.NodeList.{link-linked, linked-link, node-lt, node-at, node-position}
+use Rattle.neighbors.proofs.NodeList.{link-linked, linked-link, linked-node, node-lt, node-at, node-position}
 use Rattle.scan.specs.Scan.{margin}
 use Rattle.infomap.specs.Infomap.{rest, runInfomap}
 use Rattle.rng.specs.Rng.{seeded}
 use Rattle.whole.specs.Whole.{Alike}
 use Rattle.rest.specs.KeptTrial.{KeptQuiet}
 use Rattle.cluster.specs.Cluster.{nodeNetwork, cluster}
-use Rattle.cluster.proofs.Labelled.{label-none, label-chain, node-label, labels-long}
+use Rattle.cluster.proofs.Labelled.{label-none, label-chain, node-label, single-label, labels-long}
 use Rattle.cluster.proofs.AtRest as at-rest
 use Rattle.events.specs.FixLabels.{fixCount, allMedians, allLies, labelFor, fixLabels}
 use Rattle.tracks.specs.declared.config.Config.{Config}
@@ -108,6 +108,29 @@ module _ (dist : Metric) (c : Config) (ts : List (List Fix)) (fixes : fixCount t
       go : (b : Bool) → link dist r2 ps i j ≡ b → b ≡ false
       go true q = clash (linked dist r2 ps i) (link-linked dist r2 ps i j h q) e
       go false q = refl
+
+  -- ---- labels are -1 or a number from 0 up
+
+  abbrev Kind : ℤ → Type 0
+  Kind x = (x ≡ minusOne) ⊎ ((l : ℕ) × (x ≡ pos l))
+
+  kind-if : (t : Bool) (n : ℕ) → Kind (cond t (pos n) minusOne)
+  kind-if true n = inr (n, refl)
+  kind-if false n = inl refl
+
+  place-kind : (i : ℕ) → i < length ps → Kind (getD pl i minusOne)
+  place-kind i h = go (linked dist r2 ps i) refl
+    where
+      go : (b : Bool) → linked dist r2 ps i ≡ b → Kind (getD pl i minusOne)
+      go true q = inr (_, node-label dist r2 single seed ps i (linked-node dist r2 ps i h q))
+      go false q = subst Kind (sym (single-label dist r2 single seed ps i h q)) (kind-if single _)
+
+  fix-kind : (k : ℕ) → Kind (getD (fixLabels dist s ps pl ts) k minusOne)
+  fix-kind k = go (getD (allLies dist s ts) k none) refl
+    where
+      go : (o : Option Point) → getD (allLies dist s ts) k none ≡ o → Kind (getD (fixLabels dist s ps pl ts) k minusOne)
+      go none e = inl (label-outside k e)
+      go (some m) e = subst Kind (sym (label-some k m e)) (place-kind (placeOf ps m) (in-place k m e))
 
   -- ---- (a)
 
@@ -218,4 +241,4 @@ module _ (dist : Metric) (c : Config) (ts : List (List Fix)) (fixes : fixCount t
 
   -- Demand 3, whole.
   pub demand3 : Demand3 given
-  demand3 = record { each = fix-labels-length dist s ps pl ts; unlabelled = λ k h. rule k; joined = λ k k' l h h' p q. chains k k' l p q; marked = marks; shown = shows; settled = settles }
+  demand3 = record { each = fix-labels-length dist s ps pl ts; numbers = λ k h. fix-kind k; unlabelled = λ k h. rule k; joined = λ k k' l h h' p q. chains k k' l p q; marked = marks; shown = shows; settled = settles }

@@ -120,8 +120,9 @@ module _ (g : Given) where
   change u h = deltaMove net (fromPartition net shownGroups) u h
 
   pub record Demand3 : Type 0 where
-    -- Each fix has a label.
+    -- Each fix has a label: -1, or a number from 0 up.
     pub each : length (g .labels) ≡ fixCount (g .traces)
+    pub numbers : (k : ℕ) → k < fixCount (g .traces) → (labelOf k ≡ minusOne) ⊎ ((l : ℕ) × (labelOf k ≡ pos l))
     -- (a) A fix's label is -1 exactly when it lies in no accepted stay, or singles go unlabelled and no other distinct median is within r2 of its own.
     pub unlabelled : (k : ℕ) → k < fixCount (g .traces) → (labelOf k ≡ minusOne) ↔ (Outside k ⊎ ((i : ℕ) × LiesIn k i × Alone i × (g .config .«label_singleton» ≡ false)))
     -- (b) Two fixes of one non-negative label, in whatever traces, have medians joined by a chain of distinct medians, each step's computed distance at most r2.

@@ -9,24 +9,19 @@ use lib.Ieee.{Float}
 use Rattle.lists.proofs.Overlay.{take-front}
 use Rattle.float.specs.Binary64.{zero64}
 use Rattle.distance.specs.declared.Point.{Point}
-use Rattle.distance.specs.Distance.{euclidean}
-use Rattle.stay.specs.Trace.{fixes}
 use Rattle.neighbors.specs.Places.{Place, points, placeXs, placeYs, AllDiffer}
 use Rattle.neighbors.proofs.Within.{length-placeXs, length-placeYs}
 use Rattle.infomap.specs.declared.Mark.{Mark}
 use Rattle.cluster.specs.Cluster.{NoGap}
 use Rattle.tracks.specs.declared.config.Config.{Config}
-use Rattle.tracks.specs.Tracks.{traces}
 use Rattle.fit.specs.Fit.{Fitted, Outcome, refused, fitted, fit}
-use Rattle.fit.proofs.Accepted.{accepted}
-use Rattle.fit.proofs.FittedPlaces.{fit-no-gap, fit-differ, fit-places-few}
+use Rattle.fit.proofs.FittedPlaces.{fit-no-gap, fit-differ, fit-places-few, fit-place-labels}
 use Rattle.infostop.specs.declared.model.Infostop.{Infostop}
 use Rattle.infostop.specs.declared.answer.Answer.the-variants.{Labelled}
 use Rattle.infostop.specs.declared.answer.Fit.{Fit}
 use Rattle.infostop.specs.Models.{fittedModel}
 use Rattle.infostop.specs.Ends.{told, toldBy, Ended}
 use Rattle.infostop.specs.FittedModels.{FittedPlaces}
-use Rattle.infostop.proofs.Promises.{placed-labels}
 
 points-of : (ps : List Place) → points (placeXs ps) (placeYs ps) ≡ map (λ (p : Place). p .at) ps
 unfolding points placeXs placeYs
@@ -60,9 +55,8 @@ module _ (m : Infostop) (xs ys times : List Float) (marks lens : List ℕ) (old 
           let t : toldBy (Labelled k rounds) ≡ told (refused e) = ap toldBy (sym a) ∙ y .answer in
           absurd (let z : _≡_ {A = ℕ} 0 1 = cc in omega arith)
       go (fitted f) q y =
-          let t = accepted (m .config) xs ys times marks lens (length old) cap floats words f q .fits in
           subst FittedPlaces (sym (y .model))
           (model-places (m .config) f (fit-places-few (m .config) xs ys times marks lens (length old) cap floats words f q)
-          (placed-labels euclidean (m .config) cap (traces lens (fixes xs ys times marks)) f t)
+          (fit-place-labels (m .config) xs ys times marks lens (length old) cap floats words f q)
           (fit-no-gap (m .config) xs ys times marks lens (length old) cap floats words f q)
           (fit-differ (m .config) xs ys times marks lens (length old) cap floats words f q))

@@ -62,6 +62,15 @@ pub one-label-too-few : False (Demand3 (answered (stand 0 0 ∷ []) (pos 0 ∷ [
 unfolding fixCount
 one-label-too-few d = let e = d .each in omega arith
 
+-- All are -2.
+pub below-minus-one : False (Demand3 (answered (stand 0 0 ∷ []) (negsuc 1 ∷ negsuc 1 ∷ []) rest))
+unfolding fixCount
+below-minus-one d = why (d .numbers 0 (omega arith))
+  where
+    why : (negsuc 1 ≡ minusOne) ⊎ ((l : ℕ) × (negsuc 1 ≡ pos l)) → ⊥
+    why (inl e) = let z : _≡_ {A = ℕ} 1 0 = cc in omega arith
+    why (inr (l, e)) = pos-ne-negsuc l 1 (sym e)
+
 -- (a) All are -1, for (0,0), (6,8).
 abbrev pub allUnlabelled : Given
 allUnlabelled = answered ((at 0 0 ∷ at 6 8 ∷ []) ∷ []) (minusOne ∷ minusOne ∷ []) rest

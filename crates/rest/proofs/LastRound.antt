@@ -5,12 +5,10 @@ use Prim.Native.Nat.{ℕ, zero, suc, _-_, _<_}
 use native.Mathlib.Omega.{arith}
 use mathlib.Core.Bool.{Bool, true, false, not, _&&_}
 use mathlib.Core.List.{List, [], _∷_}
-use lib.ListN.{length}
-use Rattle.rng.specs.Rng.{order}
 use Rattle.map_state.specs.Network.{Network}
 use Rattle.map_state.specs.MapState.{MapState}
 use Rattle.scan.specs.Scan.{Answer, noMove, move, scan, isolate}
-use Rattle.optimize.specs.Rounds.{Pass, act, pass, Run, round, runRounds, optimizePartition}
+use Rattle.optimize.specs.Rounds.{Pass, act, pass, Run, round, runRounds, optimizePartition, visits}
 use Rattle.optimize.proofs.Rounds.{round-counts}
 use Rattle.optimize.proofs.Ends.{rounds-counted}
 use Rattle.rest.specs.KeptTrial.{remains, allRemain, quietRound, afterRounds, quietEnd, generatorAt, trialAt, KeptQuiet}
@@ -47,7 +45,7 @@ module _ (net : Network) where
   round-told r = go (allRemain scan net w us) refl
     where
       us : List ℕ
-      us = order (r .rng) (length (net .strength)) .list
+      us = visits net r
 
       w : Pass
       w = record { state = r .state; moved = false }

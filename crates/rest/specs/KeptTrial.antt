@@ -6,14 +6,13 @@ use mathlib.Core.Bool.{Bool, true, false, _&&_}
 use mathlib.Core.List.{List, [], _∷_}
 use lib.ListN.{length}
 use lib.Ieee.{Float, lt}
-use Rattle.lists.specs.Lists.{upto}
 use Rattle.float.specs.Binary64.{infinity64}
 use Rattle.rng.specs.Rng.{order}
 use Rattle.map_state.specs.Network.{Network}
 use Rattle.map_state.specs.MapState.{MapState}
-use Rattle.codelength.specs.Codelength.{fromPartition, codelength}
+use Rattle.codelength.specs.Codelength.{codelength}
 use Rattle.scan.specs.Scan.{Answer, noMove, move, scan, isolate}
-use Rattle.optimize.specs.Rounds.{Pass, act, pass, Run, round, optimizePartition}
+use Rattle.optimize.specs.Rounds.{Pass, act, pass, Run, round, started, optimizePartition, visits}
 use Rattle.infomap.specs.Infomap.{Grouping, trialMark}
 
 -- ---- the last round of a trial
@@ -31,13 +30,13 @@ allRemain f net w (u ∷ us) = let a = f net (w .state) u in remains a && allRem
 -- Whether no node changes its group in the round that follows r: neither by its scan nor by its isolation test, which visit the nodes in one order.
 unfoldable pub quietRound : Network → Run → Bool
 quietRound net r =
-    let us = order (r .rng) (length (net .strength)) .list in
+    let us = visits net r in
     let w : Pass = record { state = r .state; moved = false } in
     allRemain scan net w us && allRemain isolate net (pass scan net w us) us
 
 -- A trial from the generator's state x, after so many rounds.
 unfoldable pub afterRounds : Network → ℕ → ℕ → Run
-afterRounds net x zero = record { state = fromPartition net (upto (length (net .strength))); rng = x; rounds = 0; moved = true }
+afterRounds net x zero = started net x
 afterRounds net x (suc k) = round net (afterRounds net x k)
 
 -- Whether no node changed its group in the trial's last round.
