@@ -73,5 +73,12 @@ pub numbers : NumberFacts
 numbers = record { root-25 = float-examples.root-25; root-2 = float-examples.root-2; ln-1 = float-examples.ln-1; generator = from-state-1; seeds = seeds-42-43; middle = median-2-5 }
 
 pub tracks : TrackFacts
-unfolding size add sub mul div neg lt eq le ne ofInt ofBits toBits isNan from upto member position anyOf select finite sameBits root series lnOf shift ln plogp euclidean within inLimit timeOf fixes stayMedians lies samePlace sighted sightedAll places placeOf apart link weight linked nodes singles rowsOf tableOf nextU64 swap shuffleFrom shuffle row addWeights strengthsFrom totalFrom network lowest count leads statsAt sumQFrom sumQ addLink linkWeightsFrom afterMove moduleTerms modulePairDelta movedFrom deltaFrom deltaMove applyMove addExit exitFrom addNode addNodesFrom moduleSums fromPartition addModule termsFrom nodePlogpFrom codelengthOf codelength place candidates bestDelta better consider scanFrom scan highestFrom isolate act pass round runRounds optimizePartition trialMark keep trials bestOfThree keptGrouping rank relabelDense runInfomap nodeNetwork labelCount placeLabel cluster refuseIf firstOf inTurn eachOf eachFrom unusable checkTimeBounds checkConfig finitePoint finiteTime checkFix untimed partlyTimed above aboveFirst inTimeOrder checkTimes checkTrace checkFixSize checkSize total traces sameLengths checkLengths checkCounts checkWork checkMark checkContents checkTracks fixCount allMedians allLies labelFor fixLabels noneLabelled unlessNone givenBy fromPlaces fromMedians fitTraces unlessRefused fit
+unfolding size add sub mul div neg lt eq le ne ofInt ofBits toBits isNan from upto member position anyOf select finite sameBits root series lnOf shift ln plogp euclidean
+    within inLimit timeOf fixes stayMedians lies samePlace sighted sightedAll places placeOf apart link weight linked nodes singles rowsOf tableOf nextU64 swap shuffleFrom
+    shuffle row addWeights strengthsFrom totalFrom network lowest count leads statsAt sumQFrom sumQ addLink linkWeightsFrom afterMove moduleTerms modulePairDelta movedFrom
+    deltaFrom deltaMove applyMove addExit exitFrom addNode addNodesFrom moduleSums fromPartition addModule termsFrom nodePlogpFrom codelengthOf codelength place candidates
+    bestDelta better consider scanFrom scan highestFrom isolate act pass round runRounds optimizePartition trialMark keep trials bestOfThree keptGrouping rank relabelDense
+    runInfomap nodeNetwork labelCount placeLabel cluster refuseIf firstOf inTurn eachOf eachFrom unusable checkTimeBounds checkConfig finitePoint finiteTime checkFix untimed
+    partlyTimed above aboveFirst inTimeOrder checkTimes checkTrace checkFixSize checkSize total traces sameLengths checkLengths checkCounts checkWork checkMark checkContents
+    checkTracks fixCount allMedians allLies labelFor fixLabels noneLabelled unlessNone givenBy fromPlaces fromMedians fitTraces unlessRefused fit
 tracks = record { near = refl; far = refl; one = refl; after-300 = refl; after-299 = refl; after-86400 = refl; one-place = refl; all-zero = refl; two-places = refl; they-link = refl; linked-pair = refl }

@@ -44,6 +44,26 @@ use Rattle.infostop.specs.Ends.{toldBy, Ended, WorkEnds}
 
 -- ---- demand 3, with the settings 10 10 1 300 86400 2 42
 
+-- What is computed below, in parts: to unfold one of these is to unfold all that it names.
+unfoldable tracksComputed : Unit {0}
+unfolding size add sub mul div neg lt eq le ne ofInt ofBits toBits isNan from upto anyOf select sameBits root euclidean stayMedians lies samePlace sighted sightedAll
+    places placeOf apart link linked nodes allMedians allLies
+tracksComputed = tt
+
+unfoldable sumsComputed : Unit {0}
+unfolding series lnOf shift ln plogp row addWeights strengthsFrom totalFrom network lowest count leads statsAt sumQFrom sumQ addLink linkWeightsFrom afterMove moduleTerms
+    modulePairDelta movedFrom deltaFrom deltaMove addExit exitFrom addNode addNodesFrom moduleSums fromPartition
+sumsComputed = tt
+
+unfoldable groupsComputed : Unit {0}
+unfolding weight rowsOf tableOf nodeNetwork isIn labelIn numbered
+groupsComputed = tt
+
+unfoldable runComputed : Unit {0}
+unfolding nextU64 swap shuffleFrom shuffle applyMove place candidates bestDelta betterOf consider scanFrom scan highestFrom isolate act pass round runRounds
+    optimizePartition addModule termsFrom nodePlogpFrom codelengthOf codelength generatorAt trialAt trialCodelength remains allRemain quietRound afterRounds quietEnd
+runComputed = tt
+
 -- A fix without a time, and two of them.
 abbrev pub at : ℕ → ℕ → Fix
 at x y = record { at = record { x = whole64 x; y = whole64 y }; time = none }
@@ -76,8 +96,7 @@ abbrev pub allUnlabelled : Given
 allUnlabelled = answered ((at 0 0 ∷ at 6 8 ∷ []) ∷ []) (minusOne ∷ minusOne ∷ []) rest
 
 in-stay : getD (medians allUnlabelled) 0 none ≡ some (record { x = whole64 3; y = whole64 4 })
-unfolding size add sub mul div neg lt eq le ne ofInt ofBits toBits isNan from upto anyOf select sameBits root euclidean stayMedians lies samePlace sighted sightedAll places placeOf
-    apart link linked nodes allMedians allLies
+unfolding tracksComputed
 in-stay = refl
 
 pub all-unlabelled : False (Demand3 allUnlabelled)
@@ -93,8 +112,7 @@ abbrev pub unlabelledTooFew : Given
 unlabelledTooFew = answered ((at 0 0 ∷ at 0 0 ∷ at 100 0 ∷ []) ∷ []) (pos 0 ∷ pos 0 ∷ pos 0 ∷ []) rest
 
 in-no-stay : getD (medians unlabelledTooFew) 2 none ≡ none
-unfolding size add sub mul div neg lt eq le ne ofInt ofBits toBits isNan from upto anyOf select sameBits root euclidean stayMedians lies samePlace sighted sightedAll places placeOf
-    apart link linked nodes allMedians allLies
+unfolding tracksComputed
 in-no-stay = refl
 
 pub unlabelled-too-few : False (Demand3 unlabelledTooFew)
@@ -106,23 +124,19 @@ abbrev pub farTogether : Given
 farTogether = answered (stand 0 0 ∷ stand 100 0 ∷ []) (pos 0 ∷ pos 0 ∷ pos 0 ∷ pos 0 ∷ []) rest
 
 first-far : getD (medians farTogether) 0 none ≡ some (at 0 0 .at)
-unfolding size add sub mul div neg lt eq le ne ofInt ofBits toBits isNan from upto anyOf select sameBits root euclidean stayMedians lies samePlace sighted sightedAll places placeOf
-    apart link linked nodes allMedians allLies
+unfolding tracksComputed
 first-far = refl
 
 second-far : getD (medians farTogether) 2 none ≡ some (at 100 0 .at)
-unfolding size add sub mul div neg lt eq le ne ofInt ofBits toBits isNan from upto anyOf select sameBits root euclidean stayMedians lies samePlace sighted sightedAll places placeOf
-    apart link linked nodes allMedians allLies
+unfolding tracksComputed
 second-far = refl
 
 far-places : (placeOf (distinct farTogether) (at 0 0 .at) ≡ 0) × (placeOf (distinct farTogether) (at 100 0 .at) ≡ 1)
-unfolding size add sub mul div neg lt eq le ne ofInt ofBits toBits isNan from upto anyOf select sameBits root euclidean stayMedians lies samePlace sighted sightedAll places placeOf
-    apart link linked nodes allMedians allLies
+unfolding tracksComputed
 far-places = (refl, refl)
 
 unlinked : (j : ℕ) → j < length (distinct farTogether) → link euclidean (settings .r2) (distinct farTogether) 0 j ≡ false
-unfolding size add sub mul div neg lt eq le ne ofInt ofBits toBits isNan from upto anyOf select sameBits root euclidean stayMedians lies samePlace sighted sightedAll places placeOf
-    apart link linked nodes allMedians allLies
+unfolding tracksComputed
 unlinked zero h = refl
 unlinked (suc zero) h = refl
 unlinked (suc (suc j)) h = absurd (omega arith)
@@ -154,8 +168,7 @@ abbrev pub spentAlone : Given
 spentAlone = answered (stand 0 0 ∷ []) (pos 0 ∷ pos 0 ∷ []) spent
 
 by-itself : (i : ℕ) → i < length (distinct spentAlone) → Alone spentAlone i
-unfolding size add sub mul div neg lt eq le ne ofInt ofBits toBits isNan from upto anyOf select sameBits root euclidean stayMedians lies samePlace sighted sightedAll places placeOf
-    apart link linked nodes allMedians allLies
+unfolding tracksComputed
 by-itself zero h zero k = refl
 by-itself zero h (suc j) k = absurd (omega arith)
 by-itself (suc i) h j k = absurd (omega arith)
@@ -169,36 +182,23 @@ spentAtRest = answered (stand 0 0 ∷ stand 10 0 ∷ []) (pos 0 ∷ pos 0 ∷ po
 
 -- Its network, and the codelengths of the three trials on it, which are equal.
 pair-net : net spentAtRest ≡ linkedPair
-unfolding size add sub mul div neg lt eq le ne ofInt ofBits toBits isNan from upto anyOf select sameBits root euclidean stayMedians lies samePlace sighted sightedAll places placeOf
-    apart link linked nodes allMedians allLies weight rowsOf tableOf row addWeights strengthsFrom totalFrom network nodeNetwork
+unfolding tracksComputed sumsComputed groupsComputed
 pair-net = refl
 
 length-0 : trialCodelength linkedPair (seeded 42) 0 ≡ ln2
-unfolding series lnOf shift ln plogp size add sub mul div neg lt ofInt ofBits from upto nextU64 swap shuffleFrom shuffle row addWeights strengthsFrom totalFrom network lowest count
-    leads statsAt sumQFrom sumQ addLink linkWeightsFrom afterMove moduleTerms modulePairDelta movedFrom deltaFrom deltaMove applyMove addExit exitFrom addNode addNodesFrom moduleSums
-    fromPartition place candidates bestDelta betterOf consider scanFrom scan highestFrom isolate act pass round runRounds optimizePartition addModule termsFrom nodePlogpFrom
-    codelengthOf codelength generatorAt trialAt trialCodelength
+unfolding tracksComputed sumsComputed runComputed
 length-0 = refl
 
 length-1 : trialCodelength linkedPair (seeded 42) 1 ≡ ln2
-unfolding series lnOf shift ln plogp size add sub mul div neg lt ofInt ofBits from upto nextU64 swap shuffleFrom shuffle row addWeights strengthsFrom totalFrom network lowest count
-    leads statsAt sumQFrom sumQ addLink linkWeightsFrom afterMove moduleTerms modulePairDelta movedFrom deltaFrom deltaMove applyMove addExit exitFrom addNode addNodesFrom moduleSums
-    fromPartition place candidates bestDelta betterOf consider scanFrom scan highestFrom isolate act pass round runRounds optimizePartition addModule termsFrom nodePlogpFrom
-    codelengthOf codelength generatorAt trialAt trialCodelength
+unfolding tracksComputed sumsComputed runComputed
 length-1 = refl
 
 length-2 : trialCodelength linkedPair (seeded 42) 2 ≡ ln2
-unfolding series lnOf shift ln plogp size add sub mul div neg lt ofInt ofBits from upto nextU64 swap shuffleFrom shuffle row addWeights strengthsFrom totalFrom network lowest count
-    leads statsAt sumQFrom sumQ addLink linkWeightsFrom afterMove moduleTerms modulePairDelta movedFrom deltaFrom deltaMove applyMove addExit exitFrom addNode addNodesFrom moduleSums
-    fromPartition place candidates bestDelta betterOf consider scanFrom scan highestFrom isolate act pass round runRounds optimizePartition addModule termsFrom nodePlogpFrom
-    codelengthOf codelength generatorAt trialAt trialCodelength
+unfolding tracksComputed sumsComputed runComputed
 length-2 = refl
 
 quiet-0 : quietEnd linkedPair (generatorAt linkedPair (seeded 42) 0) ≡ true
-unfolding series lnOf shift ln plogp size add sub mul div neg lt ofInt ofBits from upto nextU64 swap shuffleFrom shuffle row addWeights strengthsFrom totalFrom network lowest count
-    leads statsAt sumQFrom sumQ addLink linkWeightsFrom afterMove moduleTerms modulePairDelta movedFrom deltaFrom deltaMove applyMove addExit exitFrom addNode addNodesFrom moduleSums
-    fromPartition place candidates bestDelta betterOf consider scanFrom scan highestFrom isolate act pass round runRounds optimizePartition generatorAt remains allRemain quietRound
-    afterRounds quietEnd
+unfolding tracksComputed sumsComputed runComputed
 quiet-0 = refl
 
 first-kept : KeptQuiet linkedPair (seeded 42)
@@ -227,13 +227,11 @@ abbrev pub twoAtOne : Given
 twoAtOne = answered (stand 0 0 ∷ []) (pos 0 ∷ pos 1 ∷ []) rest
 
 lies-there : LiesIn twoAtOne 1 0
-unfolding size add sub mul div neg lt eq le ne ofInt ofBits toBits isNan from upto anyOf select sameBits root euclidean stayMedians lies samePlace sighted sightedAll places placeOf
-    apart link linked nodes allMedians allLies
+unfolding tracksComputed
 lies-there = record { median = at 0 0 .at; lies = refl; place = refl; inside = omega arith }
 
 label-there : medianLabel twoAtOne 0 ≡ pos 0
-unfolding size add sub mul div neg lt eq le ne ofInt ofBits toBits isNan from upto anyOf select sameBits root euclidean stayMedians lies samePlace sighted sightedAll places placeOf
-    apart link linked nodes allMedians allLies isIn labelIn
+unfolding tracksComputed groupsComputed
 label-there = refl
 
 pub two-at-one : False (Demand3 twoAtOne)
@@ -244,22 +242,15 @@ abbrev pub betterMove : Given
 betterMove = answered (stand 0 0 ∷ stand 10 0 ∷ []) (pos 0 ∷ pos 0 ∷ pos 1 ∷ pos 1 ∷ []) rest
 
 better : lt (change betterMove 1 0) (neg margin) ≡ true
-unfolding size add sub mul div neg lt eq le ne ofInt ofBits toBits isNan from upto anyOf select sameBits root euclidean stayMedians lies samePlace sighted sightedAll places placeOf
-    apart link linked nodes allMedians allLies series lnOf shift ln plogp weight rowsOf tableOf row addWeights strengthsFrom totalFrom network lowest count leads statsAt sumQFrom sumQ
-    addLink linkWeightsFrom afterMove moduleTerms modulePairDelta movedFrom deltaFrom deltaMove addExit exitFrom addNode addNodesFrom moduleSums fromPartition nodeNetwork isIn labelIn
-    numbered
+unfolding tracksComputed sumsComputed groupsComputed
 better = refl
 
 into-first : NeighbourGroup betterMove 1 0
-unfolding size add sub mul div neg lt eq le ne ofInt ofBits toBits isNan from upto anyOf select sameBits root euclidean stayMedians lies samePlace sighted sightedAll places placeOf
-    apart link linked nodes allMedians allLies series lnOf shift ln plogp weight rowsOf tableOf row addWeights strengthsFrom totalFrom network lowest count leads statsAt sumQFrom sumQ
-    addLink linkWeightsFrom afterMove moduleTerms modulePairDelta movedFrom deltaFrom deltaMove addExit exitFrom addNode addNodesFrom moduleSums fromPartition nodeNetwork isIn labelIn
-    numbered
+unfolding tracksComputed sumsComputed groupsComputed
 into-first = record { node = 0; inside = omega arith; link = refl; group = refl; other = λ e. omega arith }
 
 two-linked : length (linkedMedians betterMove) ≡ 2
-unfolding size add sub mul div neg lt eq le ne ofInt ofBits toBits isNan from upto anyOf select sameBits root euclidean stayMedians lies samePlace sighted sightedAll places placeOf
-    apart link linked nodes allMedians allLies
+unfolding tracksComputed
 two-linked = refl
 
 pub better-move : False (Demand3 betterMove)
