@@ -14,7 +14,7 @@ use infomap::Kept;
 
 pub mod labels;
 
-// Groups the linked places by their rows and columns of the table of all n, and labels the n places.
+// Groups the linked places by their rows and columns of the table of all n, and labels the n places. `table` and `groups` are work.
 fn group_and_label(
     table: &mut [f64],
     n: usize,
@@ -35,7 +35,7 @@ fn group_and_label(
     kept
 }
 
-// The run in lent slices.
+// The run in lent slices. `table`, `linked` and `groups` are work.
 fn cluster_in(
     xs: &[f64],
     ys: &[f64],

@@ -1,7 +1,7 @@
 // Three trials on one generator, and the kept one with its groups numbered from 0.
 //
-// The slices are those of crate `map_state`; `best` holds the kept grouping. The other slices of the map state and `order` are work here: what they
-// hold after a call is not read.
+// The slices are those of crate `map_state`; `best` holds the kept grouping. A `&mut` slice whose end a contract here does not state is work:
+// what it holds after the call is not read.
 ghost use mathlib.Core.Path.{_≡_};
 ghost use Prim.Native.Nat.{ℕ, _+_, _-_, _*_, _<_, _≤_};
 ghost use mathlib.Core.Bool.{cond};

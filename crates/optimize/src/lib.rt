@@ -182,7 +182,9 @@ fn round(
     t: RunState,
 ) -> RunState
     requires { ⌜ (Sized (now table) stride (now strength) (now partition) (now first) (now exits) (now strengths)) × (Firsts (now partition) (now first)) × (length (now order) ≡ length (now partition)) × (AtMost 800000 (now partition)) × (t .rounds < 1000) ⌝ }
-    ensures { λ r. ⌜ (runOf (now (partition .exit)) (now (exits .exit)) (now (strengths .exit)) r ≡ round (netOf (now (table .entry)) stride (now (strength .entry)) d) (runOf (now (partition .entry)) (now (exits .entry)) (now (strengths .entry)) t)) × (Firsts (now (partition .exit)) (now (first .exit))) × (now (order .exit) ≡ visits (netOf (now (table .entry)) stride (now (strength .entry)) d) (runOf (now (partition .entry)) (now (exits .entry)) (now (strengths .entry)) t)) ⌝ }
+    ensures { λ r. ⌜ (runOf (now (partition .exit)) (now (exits .exit)) (now (strengths .exit)) r ≡ round (netOf (now (table .entry)) stride (now (strength .entry)) d) (runOf (now (partition .entry)) (now (exits .entry)) (now (strengths .entry)) t))
+        × (Firsts (now (partition .exit)) (now (first .exit)))
+        × (now (order .exit) ≡ visits (netOf (now (table .entry)) stride (now (strength .entry)) d) (runOf (now (partition .entry)) (now (exits .entry)) (now (strengths .entry)) t)) ⌝ }
 {
     let rng = rng::draw_order(order, t.rng);
     let w = move_pass(
@@ -234,7 +236,9 @@ fn run_rounds(
     start: RunState,
 ) -> RunState
     requires { ⌜ (Sized (now table) stride (now strength) (now partition) (now first) (now exits) (now strengths)) × (Firsts (now partition) (now first)) × (length (now order) ≡ length (now partition)) × (AtMost 512 (now partition)) × (start .rounds ≡ 0) ⌝ }
-    ensures { λ r. ⌜ (runOf (now (partition .exit)) (now (exits .exit)) (now (strengths .exit)) r ≡ runRounds (netOf (now (table .entry)) stride (now (strength .entry)) d) 100 true (runOf (now (partition .entry)) (now (exits .entry)) (now (strengths .entry)) start)) × (Firsts (now (partition .exit)) (now (first .exit))) × (now (order .exit) ≡ lastVisitsFrom (netOf (now (table .entry)) stride (now (strength .entry)) d) 100 true (runOf (now (partition .entry)) (now (exits .entry)) (now (strengths .entry)) start) (now (order .entry))) ⌝ }
+    ensures { λ r. ⌜ (runOf (now (partition .exit)) (now (exits .exit)) (now (strengths .exit)) r ≡ runRounds (netOf (now (table .entry)) stride (now (strength .entry)) d) 100 true (runOf (now (partition .entry)) (now (exits .entry)) (now (strengths .entry)) start))
+        × (Firsts (now (partition .exit)) (now (first .exit)))
+        × (now (order .exit) ≡ lastVisitsFrom (netOf (now (table .entry)) stride (now (strength .entry)) d) 100 true (runOf (now (partition .entry)) (now (exits .entry)) (now (strengths .entry)) start) (now (order .entry))) ⌝ }
 {
     let mut t = start;
     let mut more = true;

@@ -14,7 +14,18 @@ use Rattle.optimize.proofs.run_rounds.Statement.{statement}
 use Rattle.optimize.proofs.run_rounds.Tie as tie
 
 abbrev Inv-loop : tie.InvT-loop
-Inv-loop table m strength d part₀ first₀ exits₀ strengths₀ order₀ t₀ more₀ left₀ part first exit strengths order t more left = (runRounds (netOf table m strength d) left more (runOf part exit strengths t) ≡ runRounds (netOf table m strength d) 100 true (runOf part₀ exits₀ strengths₀ t₀)) × (Sized table m strength part first exit strengths) × (Firsts part first) × (length part ≡ length part₀) × (length first ≡ length first₀) × (length exit ≡ length exits₀) × (length strengths ≡ length strengths₀) × (length order ≡ length order₀) × (t .rounds + left ≡ 100) × (AtMost (512 + 512 * t .rounds) part) × (lastVisitsFrom (netOf table m strength d) left more (runOf part exit strengths t) order ≡ lastVisitsFrom (netOf table m strength d) 100 true (runOf part₀ exits₀ strengths₀ t₀) order₀)
+Inv-loop table m strength d part₀ first₀ exits₀ strengths₀ order₀ t₀ more₀ left₀ part first exit strengths order t more left =
+    (runRounds (netOf table m strength d) left more (runOf part exit strengths t) ≡ runRounds (netOf table m strength d) 100 true (runOf part₀ exits₀ strengths₀ t₀))
+    × (Sized table m strength part first exit strengths)
+    × (Firsts part first)
+    × (length part ≡ length part₀)
+    × (length first ≡ length first₀)
+    × (length exit ≡ length exits₀)
+    × (length strengths ≡ length strengths₀)
+    × (length order ≡ length order₀)
+    × (t .rounds + left ≡ 100)
+    × (AtMost (512 + 512 * t .rounds) part)
+    × (lastVisitsFrom (netOf table m strength d) left more (runOf part exit strengths t) order ≡ lastVisitsFrom (netOf table m strength d) 100 true (runOf part₀ exits₀ strengths₀ t₀) order₀)
 
 abbrev μ-loop : tie.MeasureT-loop
 μ-loop table m strength d part₀ first₀ exits₀ strengths₀ order₀ t₀ more₀ left₀ part first exit strengths order t more left = left
