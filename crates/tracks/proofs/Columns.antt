@@ -11,6 +11,7 @@ use lib.Dec.{eqb}
 use lib.ListN.{length, drop, getD, length-drop, drop-of-length-le}
 use lib.Seq.{drop-cons}
 use lib.Ieee.{Float, nan}
+use Rattle.float.specs.Binary64.{zero64}
 use Rattle.stay.specs.Trace.{Fix, timeOf, fixes, hasTime}
 use Rattle.stay.specs.Steps.{allMarked}
 use Rattle.stay.proofs.Fixes.{noFix, fixes-length, fixes-at, timed-marked}
@@ -18,7 +19,7 @@ use Rattle.tracks.specs.declared.refusal.Checked.{Checked}
 use Rattle.tracks.specs.declared.refusal.Checked.the-variants.{Accepted}
 use Rattle.tracks.specs.Checks.{isRefused, eachOf}
 use Rattle.tracks.specs.Traces.{untimed, partlyTimed, above, aboveFirst, inTimeOrder}
-use Rattle.tracks.specs.Columns.{noneMarked, columnAbove, columnsInOrder}
+use Rattle.tracks.specs.Columns.{readTime, noneMarked, columnAbove, columnsInOrder}
 use Rattle.tracks.proofs.Turns.{each-on, each-stop, each-end}
 
 -- ---- a check at each fix, in a loop over the columns
@@ -40,6 +41,16 @@ module _ (f : Fix → Checked) (xs ys ts : List Float) (ms : List ℕ) (a : leng
 
   pub fix-end : length xs ≤ i → Accepted ≡ v
   fix-end h = each-end f (fixes xs ys ts ms) noFix i inv (subst (λ (n : ℕ). n ≤ i) (sym (fixes-length xs ys ts ms a b c)) h)
+
+-- ---- the value beside a mark that is not 1 is not read
+
+pub as-read : (m : ℕ) (t : Float) {r : Float} → r ≡ readTime m t → timeOf m r ≡ timeOf m t
+unfolding timeOf readTime
+as-read m t e = rw e (go (eqb m 1))
+  where
+    go : (b : Bool) → cond b (some (cond b t zero64)) none ≡ cond b (some t) none
+    go true = refl
+    go false = refl
 
 -- ---- no mark is 1
 

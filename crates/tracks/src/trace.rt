@@ -5,31 +5,24 @@ use distance::Point;
 ghost use mathlib.Core.Path.{_≡_};
 ghost use mathlib.Core.Bool.{not, _&&_};
 ghost use mathlib.Core.List.{List};
-ghost use Prim.Native.Nat.{ℕ};
-ghost use lib.ListN.{length};
-ghost use lib.Ieee.{Float};
-ghost use Rattle.stay.specs.Trace.{timeOf, fixes};
+ghost use Prim.Native.Nat.{ℕ, _<_};
+ghost use lib.ListN.{length, getD};
+ghost use lib.Ieee.{Float, nan};
+ghost use Rattle.stay.specs.Trace.{fixes};
 ghost use Rattle.stay.specs.Steps.{allMarked};
 ghost use Rattle.tracks.specs.Checks.{eachOf};
-ghost use Rattle.tracks.specs.Traces.{above, checkFix, checkTimes, checkTrace, checkSize};
-ghost use Rattle.tracks.specs.Columns.{noneMarked, columnsInOrder};
+ghost use Rattle.tracks.specs.Traces.{checkFix, checkTimes, checkTrace, checkSize};
+ghost use Rattle.tracks.specs.Columns.{readTime, noneMarked, columnsInOrder};
 
-// 12 and 13 of one fix. The value of a time whose mark is not 1 is not looked at.
-fn check_fix(k: usize, p: Point, mark: u8, time: f64) -> Checked
-    ensures { λ r. ⌜ r ≡ checkFix k record { at = p; time = timeOf mark time } ⌝ }
+// The time of fix i, whose mark is given. Where that is not 1 the value is not read, and 0.0 stands for it.
+fn time_at(times: &[f64], i: usize, mark: u8) -> f64
+    requires { ⌜ i < length (now times) ⌝ }
+    ensures { λ r. ⌜ r ≡ readTime mark (getD (now (times .entry)) i nan) ⌝ }
 {
-    if !float::is_finite(p.x) {
-        return Checked::Refused(Refusal::Coordinate(k));
-    }
-    if !float::is_finite(p.y) {
-        return Checked::Refused(Refusal::Coordinate(k));
-    }
     if mark == 1 {
-        if !float::is_finite(time) {
-            return Checked::Refused(Refusal::Timestamp(k));
-        }
+        return times[i];
     }
-    Checked::Accepted
+    0.0
 }
 
 // 12 and 13, fix by fix.
@@ -39,7 +32,13 @@ fn check_fixes(k: usize, xs: &[f64], ys: &[f64], times: &[f64], marks: &[u8]) ->
 {
     let mut i = 0;
     while i < xs.len() {
-        let r = check_fix(k, Point { x: xs[i], y: ys[i] }, marks[i], times[i]);
+        let mark = marks[i];
+        let r = crate::fix::check_fix(
+            k,
+            Point { x: xs[i], y: ys[i] },
+            mark,
+            time_at(times, i, mark),
+        );
         if crate::refusal::is_refused(r) {
             return r;
         }
@@ -84,18 +83,6 @@ fn partly_marked(marks: &[u8]) -> bool
     !none_marked(marks)
 }
 
-// Whether two times are there and the first is above the second.
-fn above(mark: u8, time: f64, mark2: u8, time2: f64) -> bool
-    ensures { λ r. ⌜ r ≡ above (timeOf mark time) (timeOf mark2 time2) ⌝ }
-{
-    if mark == 1 {
-        if mark2 == 1 {
-            return time2 < time;
-        }
-    }
-    false
-}
-
 fn in_time_order(times: &[f64], marks: &[u8]) -> bool
     requires { ⌜ length (now marks) ≡ length (now times) ⌝ }
     ensures { λ r. ⌜ r ≡ columnsInOrder (now (times .entry)) (now (marks .entry)) ⌝ }
@@ -103,7 +90,14 @@ fn in_time_order(times: &[f64], marks: &[u8]) -> bool
     let mut i = 1;
     while i < times.len() {
         let before = i - 1;
-        if above(marks[before], times[before], marks[i], times[i]) {
+        let mark = marks[before];
+        let mark2 = marks[i];
+        if crate::fix::above(
+            mark,
+            time_at(times, before, mark),
+            mark2,
+            time_at(times, i, mark2),
+        ) {
             return false;
         }
         i += 1;

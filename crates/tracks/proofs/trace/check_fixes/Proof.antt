@@ -6,7 +6,7 @@ use Rattle.stay.specs.Trace.{fixes}
 use Rattle.tracks.specs.Checks.{eachOf}
 use Rattle.tracks.specs.Traces.{checkFix}
 use Rattle.tracks.proofs.Turns.{says}
-use Rattle.tracks.proofs.Columns.{fix-on, fix-stop, fix-end}
+use Rattle.tracks.proofs.Columns.{as-read, fix-on, fix-stop, fix-end}
 use borrow.Author.Needs.{needs}
 use Rattle.tracks.proofs.trace.check_fixes.Statement.{statement}
 use Rattle.tracks.proofs.trace.check_fixes.Tie as tie
@@ -20,26 +20,23 @@ abbrev μ-loop : tie.MeasureT-loop
 loop-holds : tie.Need-loop-holds Inv-loop μ-loop
 loop-holds c = refl
 
-mul-t8 : tie.Need-mul-t8 Inv-loop μ-loop
-mul-t8 c = search needs
+shared-slice-read-mark : tie.Need-shared-slice-read-mark Inv-loop μ-loop
+shared-slice-read-mark c = search needs
 
-shared-slice-read-t11 : tie.Need-shared-slice-read-t11 Inv-loop μ-loop
-shared-slice-read-t11 c = search needs
-
-mul-t12 : tie.Need-mul-t12 Inv-loop μ-loop
-mul-t12 c = search needs
+mul-t9 : tie.Need-mul-t9 Inv-loop μ-loop
+mul-t9 c = search needs
 
 shared-slice-read-t14 : tie.Need-shared-slice-read-t14 Inv-loop μ-loop
 shared-slice-read-t14 c = search needs
 
-shared-slice-read-check-fix : tie.Need-shared-slice-read-check-fix Inv-loop μ-loop
-shared-slice-read-check-fix c = search needs
+mul-t15 : tie.Need-mul-t15 Inv-loop μ-loop
+mul-t15 c = search needs
 
-mul-check-fix : tie.Need-mul-check-fix Inv-loop μ-loop
-mul-check-fix c = search needs
+shared-slice-read-t17 : tie.Need-shared-slice-read-t17 Inv-loop μ-loop
+shared-slice-read-t17 c = search needs
 
-shared-slice-read-check-fix-2 : tie.Need-shared-slice-read-check-fix-2 Inv-loop μ-loop
-shared-slice-read-check-fix-2 c = search needs
+time-at-requires : tie.Need-time-at-requires Inv-loop μ-loop
+time-at-requires c κs = search needs
 
 check-fix-requires : tie.Need-check-fix-requires Inv-loop μ-loop
 check-fix-requires c κs = search needs
@@ -48,7 +45,12 @@ is-refused-requires : tie.Need-is-refused-requires Inv-loop μ-loop
 is-refused-requires c κs = search needs
 
 returns : tie.Need-returns Inv-loop μ-loop
-returns c = fix-stop (checkFix (c .before .before .before .before .before .before .before .before .before .before .before .before .before .args .k)) (c .before .before .before .before .before .before .before .before .before .before .before .before .before .args .xs .now) (c .before .before .before .before .before .before .before .before .before .before .before .before .before .args .ys .now) (c .before .before .before .before .before .before .before .before .before .before .before .before .before .args .times .now) (c .before .before .before .before .before .before .before .before .before .before .before .before .before .args .marks .now) (c .before .before .before .before .before .before .before .before .before .before .before .before .before .pre .0) (c .before .before .before .before .before .before .before .before .before .before .before .before .before .pre .1) (c .before .before .before .before .before .before .before .before .before .before .before .before .before .pre .2) (c .before .before .before .before .before .before .before .before .loop .i) (c .before .before .before .before .before .before .before .before .loop .inv) (c .before .before .before .before .before .before .before .loop-test .taken) (c .before .before .check-fix .ensures) (says (c .before .is-refused .ensures) (c .if1 .taken))
+returns c =
+    let s = c .before .before .before .before .before .before .before .before .before .before .before .before .before in
+    let l = c .before .before .before .before .before .before .before .before .loop in
+    let e = rw (as-read _ _ (c .before .before .before .time-at .ensures)) at (c .before .before .check-fix .ensures) in
+    let h = c .before .before .before .before .before .before .before .loop-test .taken in
+    fix-stop (checkFix (s .args .k)) (s .args .xs .now) (s .args .ys .now) (s .args .times .now) (s .args .marks .now) (s .pre .0) (s .pre .1) (s .pre .2) (l .i) (l .inv) h e (says (c .before .is-refused .ensures) (c .if1 .taken))
 
 add-i : tie.Need-add-i Inv-loop μ-loop
 add-i c = search needs
@@ -57,10 +59,18 @@ loop-less : tie.Need-loop-less Inv-loop μ-loop
 loop-less c = search needs
 
 loop-again : tie.Need-loop-again Inv-loop μ-loop
-loop-again c = fix-on (checkFix (c .before .before .before .before .before .before .before .before .before .before .before .before .before .args .k)) (c .before .before .before .before .before .before .before .before .before .before .before .before .before .args .xs .now) (c .before .before .before .before .before .before .before .before .before .before .before .before .before .args .ys .now) (c .before .before .before .before .before .before .before .before .before .before .before .before .before .args .times .now) (c .before .before .before .before .before .before .before .before .before .before .before .before .before .args .marks .now) (c .before .before .before .before .before .before .before .before .before .before .before .before .before .pre .0) (c .before .before .before .before .before .before .before .before .before .before .before .before .before .pre .1) (c .before .before .before .before .before .before .before .before .before .before .before .before .before .pre .2) (c .before .before .before .before .before .before .before .before .loop .i) (c .before .before .before .before .before .before .before .before .loop .inv) (c .before .before .before .before .before .before .before .loop-test .taken) (c .before .before .check-fix .ensures) (says (c .before .is-refused .ensures) (c .if1 .left))
+loop-again c =
+    let s = c .before .before .before .before .before .before .before .before .before .before .before .before .before in
+    let l = c .before .before .before .before .before .before .before .before .loop in
+    let e = rw (as-read _ _ (c .before .before .before .time-at .ensures)) at (c .before .before .check-fix .ensures) in
+    let h = c .before .before .before .before .before .before .before .loop-test .taken in
+    fix-on (checkFix (s .args .k)) (s .args .xs .now) (s .args .ys .now) (s .args .times .now) (s .args .marks .now) (s .pre .0) (s .pre .1) (s .pre .2) (l .i) (l .inv) h e (says (c .before .is-refused .ensures) (c .if1 .left))
 
 returns-2 : tie.Need-returns-2 Inv-loop μ-loop
-returns-2 c = fix-end (checkFix (c .before .before .before .before .before .before .args .k)) (c .before .before .before .before .before .before .args .xs .now) (c .before .before .before .before .before .before .args .ys .now) (c .before .before .before .before .before .before .args .times .now) (c .before .before .before .before .before .before .args .marks .now) (c .before .before .before .before .before .before .pre .0) (c .before .before .before .before .before .before .pre .1) (c .before .before .before .before .before .before .pre .2) (c .before .loop .i) (c .before .loop .inv) (c .loop-test .left)
+returns-2 c =
+    let s = c .before .before .before .before .before .before in
+    let l = c .before .loop in
+    fix-end (checkFix (s .args .k)) (s .args .xs .now) (s .args .ys .now) (s .args .times .now) (s .args .marks .now) (s .pre .0) (s .pre .1) (s .pre .2) (l .i) (l .inv) (c .loop-test .left)
 
 pub check-fixes-spec : {M : Type 1} → statement M
 check-fixes-spec =
@@ -69,13 +79,12 @@ check-fixes-spec =
     Inv-loop
     μ-loop
     loop-holds
-    mul-t8
-    shared-slice-read-t11
-    mul-t12
+    shared-slice-read-mark
+    mul-t9
     shared-slice-read-t14
-    shared-slice-read-check-fix
-    mul-check-fix
-    shared-slice-read-check-fix-2
+    mul-t15
+    shared-slice-read-t17
+    time-at-requires
     check-fix-requires
     is-refused-requires
     returns

@@ -4,7 +4,7 @@ use Prim.Native.Nat.{_-_, _≤_}
 use native.Mathlib.Omega.{arith}
 use lib.ListN.{length, drop}
 use Rattle.tracks.specs.Columns.{columnsInOrder}
-use Rattle.tracks.proofs.Columns.{order-on, order-stop, order-end}
+use Rattle.tracks.proofs.Columns.{as-read, order-on, order-stop, order-end}
 use borrow.Author.Needs.{needs}
 use Rattle.tracks.proofs.trace.in_time_order.Statement.{statement}
 use Rattle.tracks.proofs.trace.in_time_order.Tie as tie
@@ -21,29 +21,27 @@ loop-holds c = (refl, omega arith)
 sub-before : tie.Need-sub-before Inv-loop μ-loop
 sub-before c = search needs
 
-shared-slice-read-above : tie.Need-shared-slice-read-above Inv-loop μ-loop
-shared-slice-read-above c = search needs
+shared-slice-read-mark : tie.Need-shared-slice-read-mark Inv-loop μ-loop
+shared-slice-read-mark c = search needs
 
-mul-above : tie.Need-mul-above Inv-loop μ-loop
-mul-above c = search needs
+shared-slice-read-mark2 : tie.Need-shared-slice-read-mark2 Inv-loop μ-loop
+shared-slice-read-mark2 c = search needs
 
-shared-slice-read-above-2 : tie.Need-shared-slice-read-above-2 Inv-loop μ-loop
-shared-slice-read-above-2 c = search needs
+time-at-requires : tie.Need-time-at-requires Inv-loop μ-loop
+time-at-requires c κs = search needs
 
-shared-slice-read-above-3 : tie.Need-shared-slice-read-above-3 Inv-loop μ-loop
-shared-slice-read-above-3 c = search needs
-
-mul-above-2 : tie.Need-mul-above-2 Inv-loop μ-loop
-mul-above-2 c = search needs
-
-shared-slice-read-above-4 : tie.Need-shared-slice-read-above-4 Inv-loop μ-loop
-shared-slice-read-above-4 c = search needs
+time-at-requires-2 : tie.Need-time-at-requires-2 Inv-loop μ-loop
+time-at-requires-2 c κs = search needs
 
 above-requires : tie.Need-above-requires Inv-loop μ-loop
 above-requires c κs = search needs
 
 returns : tie.Need-returns Inv-loop μ-loop
-returns c = order-stop (c .before .before .before .before .before .before .before .before .before .before .args .times .now) (c .before .before .before .before .before .before .before .before .before .before .args .marks .now) (c .before .before .before .before .before .before .before .before .before .before .pre) (c .before .before .before .before .before .before .before .loop .i) (c .before .before .before .before .before .before .before .loop .inv .1) (c .before .before .before .before .before .before .loop-test .taken) (c .before .before .before .before .before .before .before .loop .inv .0) (c .before .above .ensures) (c .if1 .taken)
+returns c =
+    let s = c .before .before .before .before .before .before .before .before .before .before in
+    let l = c .before .before .before .before .before .before .before .loop in
+    let e = rw (as-read _ _ (c .before .before .before .time-at .ensures), as-read _ _ (c .before .before .time-at2 .ensures)) at (c .before .above .ensures) in
+    order-stop (s .args .times .now) (s .args .marks .now) (s .pre) (l .i) (l .inv .1) (c .before .before .before .before .before .before .loop-test .taken) (l .inv .0) e (c .if1 .taken)
 
 add-i : tie.Need-add-i Inv-loop μ-loop
 add-i c = search needs
@@ -52,10 +50,17 @@ loop-less : tie.Need-loop-less Inv-loop μ-loop
 loop-less c = search needs
 
 loop-again : tie.Need-loop-again Inv-loop μ-loop
-loop-again c = (order-on (c .before .before .before .before .before .before .before .before .before .before .args .times .now) (c .before .before .before .before .before .before .before .before .before .before .args .marks .now) (c .before .before .before .before .before .before .before .before .before .before .pre) (c .before .before .before .before .before .before .before .loop .i) (c .before .before .before .before .before .before .before .loop .inv .1) (c .before .before .before .before .before .before .loop-test .taken) (c .before .before .before .before .before .before .before .loop .inv .0) (c .before .above .ensures) (c .if1 .left), omega arith)
+loop-again c =
+    let s = c .before .before .before .before .before .before .before .before .before .before in
+    let l = c .before .before .before .before .before .before .before .loop in
+    let e = rw (as-read _ _ (c .before .before .before .time-at .ensures), as-read _ _ (c .before .before .time-at2 .ensures)) at (c .before .above .ensures) in
+    (order-on (s .args .times .now) (s .args .marks .now) (s .pre) (l .i) (l .inv .1) (c .before .before .before .before .before .before .loop-test .taken) (l .inv .0) e (c .if1 .left), omega arith)
 
 returns-2 : tie.Need-returns-2 Inv-loop μ-loop
-returns-2 c = order-end (c .before .before .before .before .args .times .now) (c .before .before .before .before .args .marks .now) (c .before .before .before .before .pre) (c .before .loop .i) (c .before .loop .inv .1) (c .loop-test .left) (c .before .loop .inv .0)
+returns-2 c =
+    let s = c .before .before .before .before in
+    let l = c .before .loop in
+    order-end (s .args .times .now) (s .args .marks .now) (s .pre) (l .i) (l .inv .1) (c .loop-test .left) (l .inv .0)
 
 pub in-time-order-spec : {M : Type 1} → statement M
 in-time-order-spec =
@@ -65,12 +70,10 @@ in-time-order-spec =
     μ-loop
     loop-holds
     sub-before
-    shared-slice-read-above
-    mul-above
-    shared-slice-read-above-2
-    shared-slice-read-above-3
-    mul-above-2
-    shared-slice-read-above-4
+    shared-slice-read-mark
+    shared-slice-read-mark2
+    time-at-requires
+    time-at-requires-2
     above-requires
     returns
     add-i

@@ -1,12 +1,12 @@
--- `tracks::trace::check_fix` meets its contract. Assumes nothing.
+-- `tracks::fix::check_fix` meets its contract. Assumes nothing.
 use borrow.Author.Tests.{not-true, not-false, eq-eqb, ne-eqb}
 use Rattle.stay.specs.Trace.{timeOf}
 use Rattle.tracks.specs.Checks.{refuseIf, firstOf, inTurn}
 use Rattle.tracks.specs.Traces.{finitePoint, finiteTime, checkFix}
 use Rattle.tracks.proofs.Turns.{says}
 use borrow.Author.Needs.{needs}
-use Rattle.tracks.proofs.trace.check_fix.Statement.{statement}
-use Rattle.tracks.proofs.trace.check_fix.Tie as tie
+use Rattle.tracks.proofs.fix.check_fix.Statement.{statement}
+use Rattle.tracks.proofs.fix.check_fix.Tie as tie
 
 is-finite-requires : tie.Need-is-finite-requires
 is-finite-requires c κs = search needs

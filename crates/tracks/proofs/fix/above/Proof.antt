@@ -1,4 +1,4 @@
--- `tracks::trace::above` meets its contract. Assumes nothing.
+-- `tracks::fix::above` meets its contract. Assumes nothing.
 use mathlib.Core.Path.{_≡_, refl}
 use mathlib.Core.Bool.{Bool, true, false, cond}
 use mathlib.Core.Option.{Option, none, some}
@@ -6,8 +6,8 @@ use borrow.Author.Tests.{eq-eqb, ne-eqb}
 use lib.Ieee.{Float}
 use Rattle.stay.specs.Trace.{timeOf}
 use Rattle.tracks.specs.Traces.{above}
-use Rattle.tracks.proofs.trace.above.Statement.{statement}
-use Rattle.tracks.proofs.trace.above.Tie as tie
+use Rattle.tracks.proofs.fix.above.Statement.{statement}
+use Rattle.tracks.proofs.fix.above.Tie as tie
 
 returns : tie.Need-returns
 unfolding above timeOf
