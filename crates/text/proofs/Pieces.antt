@@ -6,18 +6,21 @@ use Prim.Native.Nat.{ℕ, _≤_, _<_}
 use native.Mathlib.Omega.{arith}
 use borrow.Author.Tests.{ltb-true, ltb-false}
 use lib.Dec.{ltb}
-use lib.ListN.{length, getD, replicate}
+use lib.ListN.{length, getD, replicate, take}
+use lib.Seq.{take-all}
 use lib.Ieee.{Float}
 use Rattle.lists.proofs.Tests.{clash}
 use Rattle.tracks.specs.declared.config.Config.{Config}
-use Rattle.tracks.specs.declared.refusal.Refusal.the-variants.{Text}
+use Rattle.tracks.specs.declared.refusal.Checked.{Checked}
+use Rattle.tracks.specs.declared.refusal.Checked.the-variants.{Accepted, Refused as failed}
+use Rattle.tracks.specs.Settings.{checkConfig}
 use Rattle.text.specs.declared.Reader.{Reader}
 use Rattle.text.specs.declared.Parsed.{Parsed}
-use Rattle.text.specs.declared.Parsed.the-variants.{Refused}
+use Rattle.text.specs.declared.Parsed.the-variants.{Tracks, Refused}
 use Rattle.text.specs.Fields.{Field, bad, sizeOf}
 use Rattle.text.specs.Form.{Lines, noLines, lines, linesOf, areLines, inForm}
 use Rattle.text.specs.Values.{FixLine, configOf, fixOf, Read, outside, inside, valuesOf, read, xsOf, ysOf, timesOf, marksOf, lengthsOf, Rising}
-use Rattle.text.specs.Parsed.{unlessMany, taken, parsed, into, firstFixes, filled, Parses}
+use Rattle.text.specs.Parsed.{tooMany, unlessMany, taken, parsed, into, firstFixes, isTaken, filled, Parses}
 use Rattle.text.specs.Steps.{Machine, run, initial, ended}
 use Rattle.text.specs.Pieces.{startReader, holding, configIn, finishedIf, finished, Fed, ReadAs}
 use Rattle.text.proofs.Numbers.{signOf}
@@ -152,25 +155,35 @@ rises t c ps q = go (linesOf t) refl
 
 -- ---- a text in one piece
 
+-- A text that is taken has at most 768 fixes.
+few : (c : Config) (ls : List FixLine) → isTaken (parsed (inside c ls)) ≡ true → firstFixes ls ≡ ls
+unfolding parsed taken unlessMany firstFixes tooMany
+few c ls h = go (ltb 768 (length ls)) refl
+  where
+    never : (v : Checked) → isTaken (tooMany v) ≡ false
+    never Accepted = refl
+    never (failed e) = refl
+
+    go : (b : Bool) → ltb 768 (length ls) ≡ b → take 768 ls ≡ ls
+    go true e = clash (isTaken (tooMany (checkConfig c))) (rw e at h) (never (checkConfig c))
+    go false e = take-all 768 ls (ltb-false 768 (length ls) e)
+
 module _ (t : List ℕ) (xs ys times : List Float) (marks lens : List ℕ) where
-  parses-inside : (r : Parsed) (xs' ys' times' : List Float) (marks' lens' : List ℕ) → inForm t ≡ true → ReadAs xs ys times marks lens t r xs' ys' times' marks' lens' → Parses t xs ys times marks lens r xs' ys' times' marks' lens'
-  unfolding inForm areLines read valuesOf filled
-  parses-inside r xs' ys' times' marks' lens' h w = go (linesOf t) refl
-    where
-      go : (L : Lines) → linesOf t ≡ L → Parses t xs ys times marks lens r xs' ys' times' marks' lens'
-      go noLines e = clash (areLines (linesOf t)) h (ap areLines e)
-      go (lines s l) e =
-          let k = w .columns (configOf s) (map fixOf l) (rw e) in
-          record { answer = w .answer; xs-end = rw e (k .0); ys-end = rw e (k .1); times-end = rw e (k .2); marks-end = rw e (k .3); lens-end = rw e (k .4) }
+  pub parses-refused : (r : Parsed) → r ≡ parsed (read t) → isTaken r ≡ false → Parses t xs ys times marks lens r xs ys times marks lens
+  unfolding filled
+  parses-refused (Refused e) a h = record { answer = a; xs-end = refl; ys-end = refl; times-end = refl; marks-end = refl; lens-end = refl }
+  parses-refused (Tracks i) a h = absurd (let z : _≡_ {A = Bool} true false = h in let w : _≡_ {A = ℕ} 0 1 = cc in omega arith)
 
-  pub parses-outside : inForm t ≡ false → Parses t xs ys times marks lens (Refused Text) xs ys times marks lens
-  unfolding inForm areLines read valuesOf parsed filled
-  parses-outside h = go (linesOf t) refl
-    where
-      go : (L : Lines) → linesOf t ≡ L → Parses t xs ys times marks lens (Refused Text) xs ys times marks lens
-      go noLines e = record { answer = rw e; xs-end = rw e; ys-end = rw e; times-end = rw e; marks-end = rw e; lens-end = rw e }
-      go (lines s l) e = clash (areLines (linesOf t)) (ap areLines e) h
+  parses-inside : (r q : Parsed) (w : Read) (xs' ys' times' : List Float) (marks' lens' : List ℕ) → r ≡ parsed (read t) → isTaken r ≡ true → read t ≡ w → ReadAs xs ys times marks lens t q xs' ys' times' marks' lens' → Parses t xs ys times marks lens r xs' ys' times' marks' lens'
+  unfolding filled
+  parses-inside (Refused e) q w xs' ys' times' marks' lens' a h p k = absurd (let z : _≡_ {A = Bool} false true = h in let w : _≡_ {A = ℕ} 0 1 = cc in omega arith)
+  parses-inside (Tracks i) q outside xs' ys' times' marks' lens' a h p k = absurd (let z : isTaken (Tracks i) ≡ isTaken (parsed outside) = ap isTaken (a ∙ ap parsed p) in unfold parsed in let w : _≡_ {A = ℕ} 0 1 = cc in omega arith)
+  parses-inside (Tracks i) q (inside c ls) xs' ys' times' marks' lens' a h p k =
+      let e = few c ls (ap isTaken (sym (a ∙ ap parsed p))) in
+      let z = rw e at (k .columns c ls p) in
+      record { answer = a; xs-end = rw p (z .0); ys-end = rw p (z .1); times-end = rw p (z .2); marks-end = rw p (z .3); lens-end = rw p (z .4) }
 
-  -- What `parse` does with a text in the form.
-  pub parses-whole : (s q : Reader) (r : Parsed) (xs' ys' times' : List Float) (marks' lens' : List ℕ) → s ≡ startReader → holding q xs' ys' times' marks' lens' ≡ run (holding s xs ys times marks lens) t → r ≡ finished q → inForm t ≡ true → Parses t xs ys times marks lens r xs' ys' times' marks' lens'
-  parses-whole s q r xs' ys' times' marks' lens' p e f h = rw f (parses-inside (finished q) xs' ys' times' marks' lens' h (fed-read xs ys times marks lens t q xs' ys' times' marks' lens' (fed-whole p e)))
+  -- What `parse` does with a text that is taken.
+  pub parses-whole : (s q : Reader) (r : Parsed) (xs' ys' times' : List Float) (marks' lens' : List ℕ)
+      → s ≡ startReader → holding q xs' ys' times' marks' lens' ≡ run (holding s xs ys times marks lens) t → r ≡ parsed (read t) → isTaken r ≡ true → Parses t xs ys times marks lens r xs' ys' times' marks' lens'
+  parses-whole s q r xs' ys' times' marks' lens' p e a h = parses-inside r (finished q) (read t) xs' ys' times' marks' lens' a h refl (fed-read xs ys times marks lens t q xs' ys' times' marks' lens' (fed-whole p e))

@@ -18,7 +18,7 @@ use Rattle.text.specs.Bytes.{bytes, isDigit}
 use Rattle.text.specs.Fields.{allDigits, sizeFrom, digitsOf, afterMinus, fieldOf, isWhole, isNatural, isField, sizeOf, floatOf, timeOf}
 use Rattle.text.specs.Form.{settingNames, fixNames, restIf, past, cons, cut, add, rowIf, put, rowAfter, rowOf, settingEnds, fixEnds, settingsIn, fixIn, also, fixAfter, atEnd, fixLines, withFixes, afterFixNames, linesIf, afterSettings, afterSettingNames, linesOf}
 use Rattle.text.specs.Values.{configOf, fixOf, Read, outside, inside, valuesOf, read, timeMark, xsOf, marksOf, withFix, lengthsFrom, lengthsOf}
-use Rattle.text.specs.Parsed.{tooMany, unlessMany, taken, parsed, into, firstFixes, filled}
+use Rattle.text.specs.Parsed.{tooMany, unlessMany, taken, parsed, into, filled}
 use Rattle.text.specs.Steps.{initial, refused, begun, signed, grown, ended, nameByte, fieldByte, fieldSign, endOf, after, ends, rowByte, rowSizes, rowSigns, lexed, lexedSizes, lexedSigns, setLine, fixLine, settingsOk, settled, fixOk, more, counted, noted, judged, stored, signedWhole, timed, kept, step, run}
 use Rattle.text.specs.Pieces.{startReader, holding}
 
@@ -71,16 +71,16 @@ unfolding takes example
 example-taken = refl
 
 -- The slices: two fixes of one trace, without times; behind them stays what was there.
-example-xs : filled xsOf (reads example) (w 7 ∷ w 7 ∷ w 7 ∷ []) ≡ w 0 ∷ w 3 ∷ w 7 ∷ []
-unfolding reads example filled into overlay firstFixes
+example-xs : filled xsOf (parses example) (reads example) (w 7 ∷ w 7 ∷ w 7 ∷ []) ≡ w 0 ∷ w 3 ∷ w 7 ∷ []
+unfolding parses reads example filled into overlay
 example-xs = refl
 
-example-marks : filled marksOf (reads example) (7 ∷ 7 ∷ 7 ∷ []) ≡ 0 ∷ 0 ∷ 7 ∷ []
-unfolding reads example filled into overlay firstFixes timeMark
+example-marks : filled marksOf (parses example) (reads example) (7 ∷ 7 ∷ 7 ∷ []) ≡ 0 ∷ 0 ∷ 7 ∷ []
+unfolding parses reads example filled into overlay timeMark
 example-marks = refl
 
-example-lens : filled lengthsOf (reads example) (7 ∷ 7 ∷ 7 ∷ []) ≡ 2 ∷ 7 ∷ 7 ∷ []
-unfolding reads example filled into overlay firstFixes lengthsOf lengthsFrom withFix
+example-lens : filled lengthsOf (parses example) (reads example) (7 ∷ 7 ∷ 7 ∷ []) ≡ 2 ∷ 7 ∷ 7 ∷ []
+unfolding parses reads example filled into overlay lengthsOf lengthsFrom withFix
 example-lens = refl
 
 -- ---- numbers

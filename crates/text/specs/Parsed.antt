@@ -36,7 +36,7 @@ parsed (inside c ls) = taken c (length ls) (length (lengthsOf ls))
 
 -- ---- the slices
 
--- The slices get the first 768.
+-- In pieces the slices get the first 768, before the answer is known.
 unfoldable pub firstFixes : List FixLine → List FixLine
 firstFixes ls = take 768 ls
 
@@ -44,16 +44,22 @@ firstFixes ls = take 768 ls
 unfoldable pub into : {A : Type 0} → List A → List A → List A
 into s l = overlay (take (length s) l) s
 
--- A slice that gets a column. A text outside the form leaves it as it was.
-unfoldable pub filled : {A : Type 0} → (List FixLine → List A) → Read → List A → List A
-filled column outside s = s
-filled column (inside c ls) s = into s (column (firstFixes ls))
+-- The text is taken: it is not refused.
+abbrev pub isTaken : Parsed → Bool
+isTaken (Tracks i) = true
+isTaken (Refused e) = false
+
+-- A slice that gets a column, where r is the answer. Every refusal leaves it as it was.
+unfoldable pub filled : {A : Type 0} → (List FixLine → List A) → Parsed → Read → List A → List A
+filled column (Refused e) w s = s
+filled column (Tracks i) outside s = s
+filled column (Tracks i) (inside c ls) s = into s (column ls)
 
 -- Parsing the text t with these slices hands back r and leaves those.
 pub record Parses (t : List ℕ) (xs ys times : List Float) (marks lens : List ℕ) (r : Parsed) (xs' ys' times' : List Float) (marks' lens' : List ℕ) : Type 0 where
   pub answer : r ≡ parsed (read t)
-  pub xs-end : xs' ≡ filled xsOf (read t) xs
-  pub ys-end : ys' ≡ filled ysOf (read t) ys
-  pub times-end : times' ≡ filled timesOf (read t) times
-  pub marks-end : marks' ≡ filled marksOf (read t) marks
-  pub lens-end : lens' ≡ filled lengthsOf (read t) lens
+  pub xs-end : xs' ≡ filled xsOf r (read t) xs
+  pub ys-end : ys' ≡ filled ysOf r (read t) ys
+  pub times-end : times' ≡ filled timesOf r (read t) times
+  pub marks-end : marks' ≡ filled marksOf r (read t) marks
+  pub lens-end : lens' ≡ filled lengthsOf r (read t) lens

@@ -4,8 +4,8 @@ use tracks::config::Config;
 use tracks::refusal::Checked;
 use tracks::refusal::Refusal;
 ghost use mathlib.Core.Path.{_≡_};
-ghost use Rattle.text.specs.Form.{inForm};
-ghost use Rattle.text.specs.Parsed.{tooMany, taken as Parsed·taken, Parses};
+ghost use Rattle.text.specs.Values.{read};
+ghost use Rattle.text.specs.Parsed.{tooMany, taken as Parsed·taken, parsed, isTaken, Parses};
 ghost use Rattle.text.specs.Steps.{run};
 ghost use Rattle.text.specs.Pieces.{startReader, holding, configIn, finished};
 
@@ -122,9 +122,9 @@ pub fn finish(r: Reader) -> Parsed
     Parsed::Refused(Refusal::Text)
 }
 
-// Whether a text is in the form.
-pub fn in_form(text: &[u8]) -> bool
-    ensures { λ r. ⌜ r ≡ inForm (now (text .entry)) ⌝ }
+// What a text says beside its columns, or its refusal. Of the columns nothing is kept.
+pub fn verdict(text: &[u8]) -> Parsed
+    ensures { λ r. ⌜ r ≡ parsed (read (now (text .entry))) ⌝ }
 {
     let mut xs = [0.0; 1];
     let mut ys = [0.0; 1];
@@ -140,11 +140,19 @@ pub fn in_form(text: &[u8]) -> bool
         &mut marks,
         &mut lens,
     );
-    let s = r.state;
-    state::ended(s)
+    finish(r)
 }
 
-// Parses a text. The columns of its first 768 fixes go into the slices, as far as there is room; a text that is not in the form leaves them as they were.
+fn is_taken(p: Parsed) -> bool
+    ensures { λ r. ⌜ r ≡ isTaken p ⌝ }
+{
+    match p {
+        Parsed::Tracks(_) => true,
+        Parsed::Refused(_) => false,
+    }
+}
+
+// Parses a text. The columns of its fixes go into the slices, as far as there is room. The text is judged first: every refusal leaves them as they were.
 pub fn parse(
     text: &[u8],
     xs: &mut [f64],
@@ -155,8 +163,10 @@ pub fn parse(
 ) -> Parsed
     ensures { λ r. ⌜ Parses (now (text .entry)) (now (xs .entry)) (now (ys .entry)) (now (times .entry)) (now (marks .entry)) (now (lens .entry)) r (now (xs .exit)) (now (ys .exit)) (now (times .exit)) (now (marks .exit)) (now (lens .exit)) ⌝ }
 {
-    if in_form(text) {
-        return finish(feed(start(), text, xs, ys, times, marks, lens));
+    let p = verdict(text);
+    if is_taken(p) {
+        feed(start(), text, xs, ys, times, marks, lens);
+        return p;
     }
-    Parsed::Refused(Refusal::Text)
+    p
 }

@@ -1,21 +1,21 @@
 -- `text::parse` meets its contract.
 use mathlib.Core.Path.{sym, _∙_}
-use Rattle.text.proofs.Pieces.{parses-whole, parses-outside}
+use Rattle.text.proofs.Pieces.{parses-whole, parses-refused}
 use borrow.Author.Needs.{needs}
 use Rattle.text.proofs.parse.Statement.{statement}
 use Rattle.text.proofs.parse.Tie as tie
 
-in-form-requires : tie.Need-in-form-requires
-in-form-requires c κs = search needs
+verdict-requires : tie.Need-verdict-requires
+verdict-requires c κs = search needs
+
+is-taken-requires : tie.Need-is-taken-requires
+is-taken-requires c κs = search needs
 
 start-requires : tie.Need-start-requires
 start-requires c κs = search needs
 
 feed-requires : tie.Need-feed-requires
 feed-requires c κs = search needs
-
-finish-requires : tie.Need-finish-requires
-finish-requires c κs = search needs
 
 same-length : tie.Need-same-length
 same-length c = search needs
@@ -33,19 +33,21 @@ same-length-5 : tie.Need-same-length-5
 same-length-5 c = search needs
 
 returns : tie.Need-returns
-returns c = parses-whole _ _ _ _ _ _ _ _ _ _ _ _ _ _ (c .before .before .before .before .before .before .before .before .before .before .before .before .before .before .before .before .before .start .ensures) (c .before .before .before .before .before .before .before .before .before .before .before .feed .ensures) (c .finish .ensures) (sym (c .before .before .before .before .before .before .before .before .before .before .before .before .before .before .before .before .before .before .before .in-form .ensures) ∙ c .before .before .before .before .before .before .before .before .before .before .before .before .before .before .before .before .before .before .if1 .taken)
+returns c =
+    let d = c .before .before .before .before .before .before .before .before .before .before in
+    parses-whole _ _ _ _ _ _ _ _ _ _ _ _ _ _ (d .before .before .before .before .before .before .start .ensures) (d .feed .ensures) (d .before .before .before .before .before .before .before .before .before .verdict .ensures) (sym (d .before .before .before .before .before .before .before .before .is-taken .ensures) ∙ d .before .before .before .before .before .before .before .if1 .taken)
 
 returns-2 : tie.Need-returns-2
-returns-2 c = parses-outside _ _ _ _ _ _ (sym (c .before .in-form .ensures) ∙ c .if1 .left)
+returns-2 c = parses-refused _ _ _ _ _ _ _ (c .before .before .verdict .ensures) (sym (c .before .is-taken .ensures) ∙ c .if1 .left)
 
 pub parse-spec : {M : Type 1} → statement M
 parse-spec =
     tie.close
     (tie.spec
-    in-form-requires
+    verdict-requires
+    is-taken-requires
     start-requires
     feed-requires
-    finish-requires
     same-length
     same-length-2
     same-length-3

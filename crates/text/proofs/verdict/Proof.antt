@@ -1,9 +1,9 @@
--- `text::in_form` meets its contract.
+-- `text::verdict` meets its contract.
 use mathlib.Core.Path.{_∙_}
-use Rattle.text.proofs.Pieces.{fed-whole, fed-ended}
+use Rattle.text.proofs.Pieces.{fed-whole, fed-end}
 use borrow.Author.Needs.{needs}
-use Rattle.text.proofs.in_form.Statement.{statement}
-use Rattle.text.proofs.in_form.Tie as tie
+use Rattle.text.proofs.verdict.Statement.{statement}
+use Rattle.text.proofs.verdict.Tie as tie
 
 start-requires : tie.Need-start-requires
 start-requires c κs = search needs
@@ -26,14 +26,14 @@ slice-aggregate-feed-5 c = search needs
 feed-requires : tie.Need-feed-requires
 feed-requires c κs = search needs
 
-ended-requires : tie.Need-ended-requires
-ended-requires c κs = search needs
+finish-requires : tie.Need-finish-requires
+finish-requires c κs = search needs
 
 returns : tie.Need-returns
-returns c = c .ended .ensures ∙ fed-ended _ _ _ _ _ _ _ _ _ _ _ _ (fed-whole (c .before .before .before .before .before .before .before .before .before .before .before .before .before .start .ensures) (c .before .before .before .before .before .before .before .feed .ensures))
+returns c = fed-end (fed-whole (c .before .before .before .before .before .before .before .before .before .before .before .before .start .ensures) (c .before .before .before .before .before .before .feed .ensures)) (c .finish .ensures) .answer
 
-pub in-form-spec : {M : Type 1} → statement M
-in-form-spec =
+pub verdict-spec : {M : Type 1} → statement M
+verdict-spec =
     tie.close
     (tie.spec
     start-requires
@@ -43,5 +43,5 @@ in-form-spec =
     slice-aggregate-feed-4
     slice-aggregate-feed-5
     feed-requires
-    ended-requires
+    finish-requires
     returns)
