@@ -3,13 +3,13 @@ use libc::STDOUT_FILENO;
 ghost use mathlib.Core.Path.{_≡_};
 ghost use mathlib.Core.Bool.{true};
 ghost use Prim.Native.Nat.{_+_};
-ghost use lib.ListN.{length, drop};
+ghost use lib.ListN.{length, drop, replicate};
 ghost use lib.Ieee.{binary64, ofBits};
 ghost use Rattle.replay.specs.Numbers.{isDigit, withDigit, before, digits, value, start, valueAt, after};
 
-// Room for a list: 1,000,000 zeros. The `ensures` gives the length, which lending the array as a slice needs.
+// Room for a list: 1,000,000 zeros. The length is said beside them, since lending the array as a slice asks for it.
 pub fn room() -> [u8; 1000000]
-    ensures { λ r. ⌜ 1000000 ≡ length r ⌝ }
+    ensures { λ r. ⌜ (1000000 ≡ length r) × (r ≡ replicate 1000000 0) ⌝ }
 {
     [0; 1000000]
 }

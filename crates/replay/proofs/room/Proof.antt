@@ -1,5 +1,5 @@
 -- `replay::room` meets its contract. Assumes nothing.
-use mathlib.Core.Path.{_≡_, sym}
+use mathlib.Core.Path.{_≡_, refl, sym}
 use Prim.Native.Nat.{ℕ}
 use lib.ListN.{length, replicate, length-replicate}
 use Rattle.replay.proofs.room.Statement.{statement}
@@ -10,7 +10,7 @@ long : (n : ℕ) → n ≡ length {A = ℕ} (replicate n 0)
 long n = sym (length-replicate n 0)
 
 returns : tie.Need-returns
-returns c = long 1000000
+returns c = (long 1000000, refl)
 
 pub room-spec : {M : Type 1} → statement M
 room-spec = tie.close (tie.spec returns)
