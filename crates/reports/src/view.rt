@@ -2,8 +2,7 @@
 use tracks::refusal::Checked;
 use tracks::refusal::Refusal;
 ghost use mathlib.Core.Path.{_≡_};
-ghost use lib.ListN.{length};
-ghost use Rattle.reports.specs.View.{checkView, traceView, refusalNumber};
+ghost use Rattle.reports.specs.View.{checkView, Viewed};
 
 // 7, 8, then 21. `labels` is the length of the label slice.
 pub fn check_view(lens: &[u32], labels: usize, trace: usize) -> Checked
@@ -21,7 +20,7 @@ pub fn check_view(lens: &[u32], labels: usize, trace: usize) -> Checked
 
 // The labels of a trace. The number of the refusal is put into `refusal`, 0 where there is none; a refusal's part is empty.
 pub fn trace_view<'a>(lens: &[u32], labels: &'a [i32], trace: usize, refusal: &mut u32) -> &'a [i32]
-    ensures { λ r. ⌜ (now r ≡ traceView (now (lens .entry)) trace (now (labels .entry))) × (now (refusal .exit) ≡ refusalNumber (checkView (now (lens .entry)) (length (now (labels .entry))) trace)) ⌝ }
+    ensures { λ r. ⌜ Viewed (now (lens .entry)) trace (labels .entry) r (now (refusal .exit)) ⌝ }
 {
     let c = check_view(lens, labels.len(), trace);
     if let Checked::Refused(e) = c {

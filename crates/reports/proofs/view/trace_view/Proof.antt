@@ -1,5 +1,5 @@
 -- `reports::view::trace_view` meets its contract.
-use mathlib.Core.Path.{sym, _∙_}
+use mathlib.Core.Path.{refl, sym, _∙_}
 use Prim.Native.Nat.{_+_, _≤_, _<_}
 use native.Mathlib.Omega.{arith}
 use lib.ListN.{length, getD}
@@ -33,7 +33,9 @@ part-result-end : tie.Need-part-result-end
 part-result-end c = search needs
 
 returns : tie.Need-returns
-returns c = view-refused (c .before .before .before .before .before .before .before .args .lens .now) (c .before .before .before .before .before .before .before .args .trace) (c .before .before .before .before .before .before .before .args .labels .now) _ (c .before .before .before .before .before .check-view .ensures) _ _ (c .before .before .before .c .given .1) (c .before .number .ensures)
+returns c =
+    let s = c .before .before .before .before .before .before .before in
+    view-refused (s .args .lens .now) (s .args .trace) (s .args .labels) _ _ _ (c .before .before .before .before .before .check-view .ensures) refl _ (c .before .before .before .c .given .1) (c .before .number .ensures) refl (omega arith)
 
 enum-told : tie.Need-enum-told
 enum-told c = search needs
@@ -66,7 +68,9 @@ part-result-end-2 : tie.Need-part-result-end-2
 part-result-end-2 c = omega (arith, ends c)
 
 returns-2 : tie.Need-returns-2
-returns-2 c = view-given (c .before .before .before .before .before .before .before .args .lens .now) (c .before .before .before .before .before .before .before .args .trace) (c .before .before .before .before .before .before .before .args .labels .now) _ (c .before .before .before .before .before .check-view .ensures) _ (c .before .before .before .enum-told .given .1) (c .before .before .trace-start .ensures)
+returns-2 c =
+    let s = c .before .before .before .before .before .before .before in
+    view-given (s .args .lens .now) (s .args .trace) (s .args .labels) _ _ _ (c .before .before .before .before .before .check-view .ensures) (search needs) _ (c .before .before .before .enum-told .given .1) (c .before .before .trace-start .ensures) refl (search needs) (search needs)
 
 pub trace-view-spec : {M : Type 1} → statement M
 trace-view-spec =
