@@ -1,78 +1,34 @@
-// The program `stops`: reads a text in the house form on standard input, to its end whatever its length, and prints the labels or the refusal.
-use libc::STDIN_FILENO;
+// The program `stops`: reads a text in the house form on standard input, to its end whatever its length, and prints the labels or the refusal. A failed
+// read is refused with 22, and a failed write is said on standard error.
+use libc::STDERR_FILENO;
 use libc::STDOUT_FILENO;
-use text::Reader;
-ghost use mathlib.Core.Path.{_≡_};
 ghost use mathlib.Core.List.{List};
-ghost use Prim.Native.Nat.{ℕ};
-ghost use Rattle.text.specs.Pieces.{holding, Fed};
-ghost use Rattle.text.specs.Steps.{run};
+ghost use Rattle.print.specs.Written.{Writes};
+ghost use Rattle.input.specs.Calls.{Call, heard};
+ghost use Rattle.stops.specs.Answer.{answerTo};
 
-// What is read so far, and whether there may be more.
-pub struct Piece {
-    pub reader: Reader,
-    pub more: bool,
-}
-
-// Reads once, and takes what came.
-fn feed_some(
-    r: Reader,
-    xs: &mut [f64],
-    ys: &mut [f64],
-    times: &mut [f64],
-    marks: &mut [u8],
-    lens: &mut [u32],
-) -> Piece
-    ensures { λ p. ⌜ ((t : List ℕ) × (holding (p .reader) (now (xs .exit)) (now (ys .exit)) (now (times .exit)) (now (marks .exit)) (now (lens .exit)) ≡ run (holding r (now (xs .entry)) (now (ys .entry)) (now (times .entry)) (now (marks .entry)) (now (lens .entry))) t)) ⌝ }
+// Reads standard input to its end, and puts the answer into `out`. Hands back how many bytes it has.
+fn answer_input(out: &mut [u8]) -> usize
+    ensures { λ r. ⌜ ((gs : List Call) × Writes (answerTo (heard gs)) (now (out .entry)) r (now (out .exit))) ⌝ }
 {
-    let mut buf = io::large_buffer();
-    let got = libc::read(STDIN_FILENO, &mut buf);
-    if got <= 0 {
-        return Piece {
-            reader: r,
-            more: false,
-        };
-    }
-    let n = io::count(got, &buf);
-    let q = text::feed(r, &buf[..n], xs, ys, times, marks, lens);
-    Piece {
-        reader: q,
-        more: true,
-    }
-}
-
-// Reads to the end of the input.
-fn feed_all(
-    xs: &mut [f64],
-    ys: &mut [f64],
-    times: &mut [f64],
-    marks: &mut [u8],
-    lens: &mut [u32],
-) -> Reader
-    ensures { λ r. ⌜ ((t : List ℕ) × Fed (now (xs .entry)) (now (ys .entry)) (now (times .entry)) (now (marks .entry)) (now (lens .entry)) t r (now (xs .exit)) (now (ys .exit)) (now (times .exit)) (now (marks .exit)) (now (lens .exit))) ⌝ }
-{
-    let mut r = text::start();
-    let mut turns = u64::MAX;
-    while 0 < turns {
-        let p = feed_some(r, xs, ys, times, marks, lens);
-        r = p.reader;
-        if !p.more {
-            return r;
-        }
-        turns -= 1;
-    }
-    r
-}
-
-fn main() {
     let mut xs = [0.0; 768];
     let mut ys = [0.0; 768];
     let mut times = [0.0; 768];
     let mut marks = [0u8; 768];
     let mut lens = [0u32; 768];
+    let p = input::read_input(&mut xs, &mut ys, &mut times, &mut marks, &mut lens);
+    reply::answer(p, &xs, &ys, &times, &marks, &lens, out)
+}
+
+// Writes the answer, and says so where that fails.
+fn write_answer(answer: &[u8]) {
+    if !io::write_all(STDOUT_FILENO, answer) {
+        io::write_all(STDERR_FILENO, b"stops: the answer could not be written\n");
+    }
+}
+
+fn main() {
     let mut out = [0u8; 49152];
-    let r = feed_all(&mut xs, &mut ys, &mut times, &mut marks, &mut lens);
-    let p = text::finish(r);
-    let n = reply::answer(p, &xs, &ys, &times, &marks, &lens, &mut out);
-    io::write_all(STDOUT_FILENO, &out[0..n]);
+    let n = answer_input(&mut out);
+    write_answer(&out[0..n]);
 }
