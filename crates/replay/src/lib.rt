@@ -4,7 +4,8 @@ ghost use mathlib.Core.Path.{_≡_};
 ghost use mathlib.Core.Bool.{true};
 ghost use Prim.Native.Nat.{_+_};
 ghost use lib.ListN.{length, drop, replicate};
-ghost use lib.Ieee.{binary64, ofBits};
+ghost use lib.Ieee.{binary64, ofBits, toBits};
+ghost use Rattle.replay.specs.Same.{allFloats, sameWord, allWords};
 ghost use Rattle.replay.specs.Numbers.{isDigit, withDigit, before, digits, value, start, valueAt, after};
 
 // Room for a list: 1,000,000 zeros. The length is said beside them, since lending the array as a slice asks for it.
@@ -102,13 +103,54 @@ pub fn print_label(n: i32) {
     }
 }
 
-// Prints the bits of x, of every NaN the same.
-pub fn print_float(x: f64) {
+// The bits of x, of every NaN the same.
+pub fn bits_of(x: f64) -> u64
+    ensures { λ r. ⌜ r ≡ toBits binary64 x ⌝ }
+{
     if x != x {
-        print_number(9221120237041090560);
-    } else {
-        print_number(f64::to_bits(x));
+        return 9221120237041090560;
     }
+    f64::to_bits(x)
+}
+
+// Prints the bits of x.
+pub fn print_float(x: f64) {
+    print_number(bits_of(x));
+}
+
+// Whether all floats are x, bit for bit.
+pub fn all_floats(s: &[f64], x: f64) -> bool
+    ensures { λ r. ⌜ r ≡ allFloats x (now (s .entry)) ⌝ }
+{
+    let bits = bits_of(x);
+    let mut i = 0;
+    while i < s.len() {
+        if bits_of(s[i]) != bits {
+            return false;
+        }
+        i += 1;
+    }
+    true
+}
+
+fn same_word(a: i32, b: i32) -> bool
+    ensures { λ r. ⌜ r ≡ sameWord a b ⌝ }
+{
+    a == b
+}
+
+// Whether all words are w.
+pub fn all_words(s: &[i32], w: i32) -> bool
+    ensures { λ r. ⌜ r ≡ allWords w (now (s .entry)) ⌝ }
+{
+    let mut i = 0;
+    while i < s.len() {
+        if !same_word(s[i], w) {
+            return false;
+        }
+        i += 1;
+    }
+    true
 }
 
 pub fn space() {

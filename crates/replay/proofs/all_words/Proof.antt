@@ -1,0 +1,63 @@
+-- `replay::all_words` meets its contract: what is left decides. Assumes nothing.
+use mathlib.Core.Path.{_≡_, refl, sym, _∙_}
+use Prim.Native.Nat.{_-_}
+use native.Mathlib.Omega.{arith}
+use mir.Syntax.{w32}
+use mir.Val.{toZ}
+use mir.Facts.{toZ-ofZ}
+use lib.ListN.{length, drop}
+use borrow.Author.Needs.{needs}
+use borrow.Author.Tests.{not-true, not-false}
+use Rattle.replay.specs.Same.{allWords}
+use Rattle.replay.proofs.All.{words-on, words-stop, words-end}
+use Rattle.replay.proofs.all_words.Statement.{statement}
+use Rattle.replay.proofs.all_words.Tie as tie
+
+abbrev Inv-loop : tie.InvT-loop
+Inv-loop s w i₀ i = allWords (toZ w32 w) (drop i s) ≡ allWords (toZ w32 w) s
+
+abbrev μ-loop : tie.MeasureT-loop
+μ-loop s w i₀ i = length s - i
+
+loop-holds : tie.Need-loop-holds Inv-loop μ-loop
+loop-holds c = refl
+
+mul-same-word : tie.Need-mul-same-word Inv-loop μ-loop
+mul-same-word c = search needs
+
+shared-slice-copy-out-same-word : tie.Need-shared-slice-copy-out-same-word Inv-loop μ-loop
+shared-slice-copy-out-same-word c = search needs
+
+same-word-requires : tie.Need-same-word-requires Inv-loop μ-loop
+same-word-requires c κs = search needs
+
+returns : tie.Need-returns Inv-loop μ-loop
+returns c = words-stop (c .before .before .before .before .before .args .w) (c .before .before .before .before .before .args .s .now) (c .before .before .before .before .loop .i) (c .before .before .before .loop-test .taken) (rw (toZ-ofZ (c .before .before .before .before .before .fits .w), toZ-ofZ {w = w32} (record { sfits = c .before .before .same-word-arg .given })) at (sym (c .before .same-word .ensures) ∙ not-true _ (c .if1 .taken))) ∙ rw (toZ-ofZ (c .before .before .before .before .before .fits .w)) at (c .before .before .before .before .loop .inv)
+
+add-i : tie.Need-add-i Inv-loop μ-loop
+add-i c = omega arith
+
+loop-less : tie.Need-loop-less Inv-loop μ-loop
+loop-less c = omega arith
+
+loop-again : tie.Need-loop-again Inv-loop μ-loop
+loop-again c = rw (toZ-ofZ (c .before .before .before .before .before .fits .w)) (words-on (c .before .before .before .before .before .args .w) (c .before .before .before .before .before .args .s .now) (c .before .before .before .before .loop .i) (c .before .before .before .loop-test .taken) (rw (toZ-ofZ (c .before .before .before .before .before .fits .w), toZ-ofZ {w = w32} (record { sfits = c .before .before .same-word-arg .given })) at (sym (c .before .same-word .ensures) ∙ not-false _ (c .if1 .left))) ∙ rw (toZ-ofZ (c .before .before .before .before .before .fits .w)) at (c .before .before .before .before .loop .inv))
+
+returns-2 : tie.Need-returns-2 Inv-loop μ-loop
+returns-2 c = words-end (c .before .before .args .w) (c .before .before .args .s .now) (c .before .loop .i) (c .loop-test .left) ∙ rw (toZ-ofZ (c .before .before .fits .w)) at (c .before .loop .inv)
+
+pub all-words-spec : {M : Type 1} → statement M
+all-words-spec =
+    tie.close
+    (tie.spec
+    Inv-loop
+    μ-loop
+    loop-holds
+    mul-same-word
+    shared-slice-copy-out-same-word
+    same-word-requires
+    returns
+    add-i
+    loop-less
+    loop-again
+    returns-2)

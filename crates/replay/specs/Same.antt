@@ -1,0 +1,23 @@
+-- Whether all items of a list are one value. Definitions only.
+use Prim.Native.Nat.{ℕ}
+use mathlib.Core.Bool.{Bool, true, _&&_}
+use mathlib.Core.List.{List, [], _∷_}
+use lib.Dec.{eqb}
+use lib.IntN.{ℤ}
+use lib.Ieee.{Float, binary64, toBits}
+use mir.Syntax.{w32}
+use mir.Val.{ofZ}
+use Rattle.float.specs.Binary64.{sameBits}
+
+-- Floats, bit for bit.
+unfoldable pub allFloats : Float → List Float → Bool
+allFloats x [] = true
+allFloats x (y ∷ l) = let r = allFloats x l in sameBits y x && r
+
+-- Words of 32 bits.
+unfoldable pub sameWord : ℤ → ℤ → Bool
+sameWord a b = eqb (ofZ w32 a) (ofZ w32 b)
+
+unfoldable pub allWords : ℤ → List ℤ → Bool
+allWords w [] = true
+allWords w (v ∷ l) = let r = allWords w l in sameWord v w && r
