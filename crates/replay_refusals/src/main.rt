@@ -2,8 +2,8 @@
 // lengths of the slices lent, `xs ys times marks labels`; `places`; the lengths of the work slices, `floats words`; the number of traces and
 // their lengths; the number of fixes that follow, and for each `x y mark time`, floats as their bits. What no fix fills is 0. The model that
 // a case is run with comes from a fit of two places with the same settings. Prints, for each case, the number and trace of the refusal, or
-// `0 0`; 1 where the labels are as they were, else 0; the same of the model; the same of the work slices, and 2 where what they hold is free;
-// the number of places in the model. The answers of the list are written by hand from document 01.
+// `0 0`; 1 where the labels are as they were, else 0; the same of the model, its settings too, bit for bit; the same of the work slices, and 2
+// where what they hold is free; the number of places in the model. The answers of the list are written by hand from document 01.
 use infostop::answer::Answer;
 use infostop::model::Infostop;
 use libc::STDIN_FILENO;
@@ -168,31 +168,11 @@ fn fitted_model(c: Config) -> Infostop {
     f.model
 }
 
-// Whether all words are w.
-fn all_words(s: &[i32], w: i32) -> bool {
-    let mut i = 0;
-    while i < s.len() {
-        if s[i] != w {
-            return false;
-        }
-        i += 1;
-    }
-    true
+fn same_float(a: f64, b: f64) -> bool {
+    replay::bits_of(a) == replay::bits_of(b)
 }
 
-// Whether all floats are x.
-fn all_floats(s: &[f64], x: f64) -> bool {
-    let mut i = 0;
-    while i < s.len() {
-        if s[i] != x {
-            return false;
-        }
-        i += 1;
-    }
-    true
-}
-
-// Whether the arrays of two models agree.
+// Whether the arrays of two models agree, bit for bit.
 fn same_arrays(
     ax: &[f64; 512],
     bx: &[f64; 512],
@@ -203,10 +183,10 @@ fn same_arrays(
 ) -> bool {
     let mut i = 0;
     while i < 512 {
-        if ax[i] != bx[i] {
+        if !same_float(ax[i], bx[i]) {
             return false;
         }
-        if ay[i] != by[i] {
+        if !same_float(ay[i], by[i]) {
             return false;
         }
         if al[i] != bl[i] {
@@ -217,7 +197,33 @@ fn same_arrays(
     true
 }
 
+// Whether two settings agree, bit for bit.
+fn same_config(a: Config, b: Config) -> bool {
+    if !same_float(a.r1, b.r1) {
+        return false;
+    }
+    if !same_float(a.r2, b.r2) {
+        return false;
+    }
+    if !same_float(a.min_staying_time, b.min_staying_time) {
+        return false;
+    }
+    if !same_float(a.max_time_between, b.max_time_between) {
+        return false;
+    }
+    if a.label_singleton != b.label_singleton {
+        return false;
+    }
+    if a.min_size != b.min_size {
+        return false;
+    }
+    a.seed == b.seed
+}
+
 fn same_model(a: Infostop, b: Infostop) -> bool {
+    if !same_config(a.config, b.config) {
+        return false;
+    }
     if a.fitted != b.fitted {
         return false;
     }
@@ -270,8 +276,8 @@ fn print_work(free: bool, floats: &[f64], words: &[i32]) {
         replay::space();
         replay::print_number(2);
     } else {
-        if all_floats(floats, 0.5) {
-            print_flag(all_words(words, 9));
+        if replay::all_floats(floats, 0.5) {
+            print_flag(replay::all_words(words, 9));
         } else {
             print_flag(false);
         }
@@ -296,7 +302,7 @@ fn answer(
     let a = f.answer;
     let after = f.model;
     print_answer(a);
-    print_flag(all_words(labels, 7));
+    print_flag(replay::all_words(labels, 7));
     print_flag(same_model(before, after));
     print_work(is_work_free(a), floats, words);
     replay::space();

@@ -13,32 +13,38 @@ abbrev μ-loop : tie.MeasureT-loop
 loop-holds : tie.Need-loop-holds Inv-loop μ-loop
 loop-holds c = search needs
 
-mul-if1 : tie.Need-mul-if1 Inv-loop μ-loop
-mul-if1 c = search needs
+mul-same-float : tie.Need-mul-same-float Inv-loop μ-loop
+mul-same-float c = search needs
 
-element-copy-out-if1 : tie.Need-element-copy-out-if1 Inv-loop μ-loop
-element-copy-out-if1 c = search needs
+element-copy-out-same-float : tie.Need-element-copy-out-same-float Inv-loop μ-loop
+element-copy-out-same-float c = search needs
 
-mul-if1-2 : tie.Need-mul-if1-2 Inv-loop μ-loop
-mul-if1-2 c = search needs
+mul-same-float-2 : tie.Need-mul-same-float-2 Inv-loop μ-loop
+mul-same-float-2 c = search needs
 
-element-copy-out-if1-2 : tie.Need-element-copy-out-if1-2 Inv-loop μ-loop
-element-copy-out-if1-2 c = search needs
+element-copy-out-same-float-2 : tie.Need-element-copy-out-same-float-2 Inv-loop μ-loop
+element-copy-out-same-float-2 c = search needs
+
+same-float-requires : tie.Need-same-float-requires Inv-loop μ-loop
+same-float-requires c κs = search needs
 
 returns : tie.Need-returns Inv-loop μ-loop
 returns c = search needs
 
-mul-if2 : tie.Need-mul-if2 Inv-loop μ-loop
-mul-if2 c = search needs
+mul-same-float-3 : tie.Need-mul-same-float-3 Inv-loop μ-loop
+mul-same-float-3 c = search needs
 
-element-copy-out-if2 : tie.Need-element-copy-out-if2 Inv-loop μ-loop
-element-copy-out-if2 c = search needs
+element-copy-out-same-float-3 : tie.Need-element-copy-out-same-float-3 Inv-loop μ-loop
+element-copy-out-same-float-3 c = search needs
 
-mul-if2-2 : tie.Need-mul-if2-2 Inv-loop μ-loop
-mul-if2-2 c = search needs
+mul-same-float-4 : tie.Need-mul-same-float-4 Inv-loop μ-loop
+mul-same-float-4 c = search needs
 
-element-copy-out-if2-2 : tie.Need-element-copy-out-if2-2 Inv-loop μ-loop
-element-copy-out-if2-2 c = search needs
+element-copy-out-same-float-4 : tie.Need-element-copy-out-same-float-4 Inv-loop μ-loop
+element-copy-out-same-float-4 c = search needs
+
+same-float-requires-2 : tie.Need-same-float-requires-2 Inv-loop μ-loop
+same-float-requires-2 c κs = search needs
 
 returns-2 : tie.Need-returns-2 Inv-loop μ-loop
 returns-2 c = search needs
@@ -77,15 +83,17 @@ same-arrays-spec =
     Inv-loop
     μ-loop
     loop-holds
-    mul-if1
-    element-copy-out-if1
-    mul-if1-2
-    element-copy-out-if1-2
+    mul-same-float
+    element-copy-out-same-float
+    mul-same-float-2
+    element-copy-out-same-float-2
+    same-float-requires
     returns
-    mul-if2
-    element-copy-out-if2
-    mul-if2-2
-    element-copy-out-if2-2
+    mul-same-float-3
+    element-copy-out-same-float-3
+    mul-same-float-4
+    element-copy-out-same-float-4
+    same-float-requires-2
     returns-2
     mul-if3
     element-copy-out-if3
