@@ -100,6 +100,10 @@ fn logarithms(r: &mut Random) -> Vec<f64> {
     v
 }
 
+/// Values on which ln by a series that starts at 1/25 has another last bit: the smallest whole number, and of the fractions a/b below 2 the two
+/// with the smallest b.
+const LONGER_SERIES: [f64; 3] = [389_721.0, 301.0 / 204.0, 493.0 / 335.0];
+
 fn float(r: &mut Random) -> Cases {
     let mut cases = Cases::new();
     let mut all = |op: u32, values: Vec<f64>| {
@@ -112,6 +116,8 @@ fn float(r: &mut Random) -> Cases {
     all(0, roots(r));
     all(1, logarithms(r));
     all(2, logarithms(r));
+    all(1, LONGER_SERIES.to_vec());
+    all(2, LONGER_SERIES.to_vec());
     cases
 }
 
@@ -414,6 +420,52 @@ fn isolating(r: &mut Random, wanted: usize) -> Vec<Graph> {
     found
 }
 
+/// Small graphs, found by search, each of which a changed rule answers otherwise (README.md, 'What the lists tell apart').
+fn telling() -> Vec<Graph> {
+    let graph = |seed, nodes, links: &[(usize, usize, f64)]| Graph {
+        seed,
+        nodes,
+        links: links.to_vec(),
+    };
+    vec![
+        // Margin 1e-14: two rounds for three.
+        graph(0, 3, &[(0, 1, 1.0000000000000016), (1, 2, 1.0)]),
+        // Margin 1e-16 or none: three rounds for two.
+        graph(0, 3, &[(0, 1, 1.0000000000000013), (1, 2, 1.0)]),
+        // Margin 1e-14, and groups summed from the highest lowest member down: one group for two.
+        graph(0, 4, &[(0, 1, 1.3211754821495294), (0, 3, 1.0), (1, 2, 1.0)]),
+        // Margin 1e-16 or none: two groups for one.
+        graph(0, 4, &[(0, 1, 1.3211754821495296), (0, 3, 1.0), (1, 2, 1.0)]),
+        // Margin 1e-14 in the isolation pass alone: two groups for three.
+        graph(
+            4,
+            6,
+            &[
+                (0, 4, 3.0),
+                (1, 3, 4.39315247485437),
+                (2, 3, 1.0),
+                (2, 4, 1.0),
+                (4, 5, 2.0),
+            ],
+        ),
+        // Margin 1e-16 in the isolation pass alone: one group for two.
+        graph(4, 4, &[(0, 1, 1.0), (1, 3, 1.638014017097629), (2, 3, 3.0)]),
+        // No margin in the isolation pass alone: one group for two.
+        graph(4, 4, &[(0, 1, 0.531547714724962), (1, 3, 1.0), (2, 3, 3.0)]),
+        // The target's term added before the source's: two groups for one.
+        graph(0, 4, &[(0, 2, 1.6380140170976283), (0, 3, 1.0), (1, 2, 3.0)]),
+        // Q carried from move to move and not summed anew: two groups for one.
+        graph(0, 4, &[(0, 2, 1.0), (0, 3, 0.7121622275722834), (1, 2, 1.0)]),
+        // Groups summed by internal number: one group for two.
+        graph(0, 4, &[(0, 3, 0.7121622275722835), (1, 2, 1.0), (2, 3, 1.0)]),
+        // Groups summed by highest member: one group for two.
+        graph(0, 4, &[(0, 2, 1.0), (0, 3, 0.7121622275722835), (1, 2, 1.0)]),
+        // The series of ln from 1/25: another last bit of the codelength, with the smallest whole weights; four rounds for three.
+        graph(0, 3, &[(0, 1, 346.0), (1, 2, 121.0)]),
+        graph(0, 4, &[(0, 3, 12.657742096085858), (1, 2, 19.0), (1, 3, 18.0)]),
+    ]
+}
+
 fn infomap(r: &mut Random) -> Cases {
     let mut graphs = Vec::new();
     for i in 0..420 {
@@ -435,6 +487,7 @@ fn infomap(r: &mut Random) -> Cases {
         });
     }
     graphs.extend(isolating(r, 30));
+    graphs.extend(telling());
     graphs
         .into_iter()
         .map(Graph::linked)
@@ -633,6 +686,67 @@ fn standing(r: &mut Random, places: usize) -> Fit {
     }
 }
 
+/// Tracks with the example's settings, found by search, each of which a changed rule labels otherwise (README.md, 'What the lists tell apart').
+fn telling_fits() -> Vec<Fit> {
+    let standing = |seed, points: &[(f64, f64)]| Fit {
+        seed,
+        ..Fit::with(points.iter().map(|p| twice(p.0, p.1)).collect())
+    };
+    vec![
+        // Margin 1e-16 or none: one label for two.
+        standing(
+            42,
+            &[(0.0, 0.0), (7.0, 7.0), (7.0, 0.0), (0.0, 14.0), (14.0, 14.0)],
+        ),
+        // No margin: one label for two.
+        standing(
+            42,
+            &[
+                (10.0, 10.0),
+                (20.0, 20.0),
+                (10.0, 20.0),
+                (20.0, 10.0),
+                (10.0, 0.0),
+            ],
+        ),
+        // Groups summed by internal number, by highest member, from the highest lowest member down: other pairs.
+        standing(
+            0,
+            &[
+                (10.0, 10.0),
+                (20.0, 20.0),
+                (0.0, 10.0),
+                (10.0, 20.0),
+                (0.0, 0.0),
+                (10.0, 0.0),
+            ],
+        ),
+        standing(
+            42,
+            &[
+                (10.0, 10.0),
+                (20.0, 0.0),
+                (0.0, 20.0),
+                (10.0, 20.0),
+                (20.0, 10.0),
+                (0.0, 10.0),
+            ],
+        ),
+        standing(
+            2,
+            &[
+                (20.0, 10.0),
+                (10.0, 0.0),
+                (10.0, 10.0),
+                (0.0, 20.0),
+                (10.0, 20.0),
+                (20.0, 0.0),
+                (0.0, 20.0),
+            ],
+        ),
+    ]
+}
+
 fn fit(r: &mut Random) -> Cases {
     let mut fits = examples();
     fits.extend(refused());
@@ -643,6 +757,7 @@ fn fit(r: &mut Random) -> Cases {
         let places = if i % 20 == 0 { r.between(60, 120) } else { r.between(2, 20) };
         fits.push(standing(r, places));
     }
+    fits.extend(telling_fits());
     fits.iter().map(Fit::line).collect()
 }
 
