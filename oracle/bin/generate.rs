@@ -460,9 +460,11 @@ fn telling() -> Vec<Graph> {
         graph(0, 4, &[(0, 3, 0.7121622275722835), (1, 2, 1.0), (2, 3, 1.0)]),
         // Groups summed by highest member: one group for two.
         graph(0, 4, &[(0, 2, 1.0), (0, 3, 0.7121622275722835), (1, 2, 1.0)]),
-        // The series of ln from 1/25: another last bit of the codelength, with the smallest whole weights; four rounds for three.
+        // The series of ln from 1/25: another last bit of the codelength, with the smallest whole weights; two groups for one.
         graph(0, 3, &[(0, 1, 346.0), (1, 2, 121.0)]),
-        graph(0, 4, &[(0, 3, 12.657742096085858), (1, 2, 19.0), (1, 3, 18.0)]),
+        graph(6, 4, &[(0, 1, 19.0), (0, 3, 18.0), (2, 3, 12.657742096085853)]),
+        // Each exit change divided by D by itself: two groups for one.
+        graph(0, 4, &[(0, 2, 1.3211754821495292), (0, 3, 1.0), (1, 2, 1.0)]),
     ]
 }
 
@@ -742,6 +744,28 @@ fn telling_fits() -> Vec<Fit> {
                 (10.0, 20.0),
                 (20.0, 0.0),
                 (0.0, 20.0),
+            ],
+        ),
+        // Margin 1e-16 or none in the isolation pass alone: two labels for three.
+        standing(
+            2,
+            &[
+                (6.0, 18.0),
+                (0.0, 12.0),
+                (0.0, 18.0),
+                (18.0, 0.0),
+                (18.0, 18.0),
+                (18.0, 12.0),
+                (6.0, 0.0),
+                (12.0, 6.0),
+                (12.0, 18.0),
+                (6.0, 18.0),
+                (18.0, 18.0),
+                (18.0, 18.0),
+                (18.0, 12.0),
+                (18.0, 12.0),
+                (12.0, 18.0),
+                (12.0, 18.0),
             ],
         ),
     ]

@@ -233,10 +233,35 @@ fn edges() -> Vec<Vec<u8>> {
     out
 }
 
+/// The examples; `-0` as the size, the seed and the trace; a text above 65,536 bytes whose last times fall, and the same with its last byte wrong.
+fn further() -> Vec<Vec<u8>> {
+    let zeros = "0".repeat(270);
+    let lines: String = (0..256)
+        .map(|i| {
+            let time = if (i % 2 == 0) == (i / 2 == 127) { 300 } else { 0 };
+            format!("{} {zeros}{} 0 {time}\n", i / 2, i / 2 * 40)
+        })
+        .collect();
+    let long = with("10 10 1 300 86400 2 42", &lines);
+    let mut wrong = long.clone();
+    wrong.pop();
+    wrong.push(b' ');
+    vec![
+        include_bytes!("../../examples/line.txt").to_vec(),
+        include_bytes!("../../examples/two-answers.txt").to_vec(),
+        with("10 10 1 300 86400 -0 42", "0 0 0 -\n0 3 4 -\n"),
+        with("10 10 1 300 86400 2 -0", "0 0 0 -\n0 3 4 -\n"),
+        with("10 10 1 300 86400 2 42", "-0 0 0 -\n-0 3 4 -\n"),
+        long,
+        wrong,
+    ]
+}
+
 fn put_list() {
     let mut texts = edges();
     let mut r = Random(20_261_117);
     texts.extend((0..160).filter(|i| i % 40 > 3).map(|i| text(&mut r, i)));
+    texts.extend(further());
     let mut out = format!("{}\n", texts.len()).into_bytes();
     for t in texts {
         out.extend(format!("{}\n", t.len()).bytes());
