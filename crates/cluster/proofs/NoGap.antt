@@ -1,15 +1,15 @@
 -- The labels of places have no gap: below a label each number is the label of a place.
 use mathlib.Core.Path.{_≡_, refl, sym, ap, _∙_, subst}
 use mathlib.Core.Bool.{Bool, true, false, not, cond}
-use mathlib.Core.List.{List, [], _∷_, map}
-use Prim.Native.Nat.{ℕ, zero, suc, _+_, _-_, _<_, _≤_, max}
+use mathlib.Core.List.{List, [], _∷_}
+use Prim.Native.Nat.{ℕ, zero, suc, _+_, _-_, _<_, _≤_}
 use native.Mathlib.Decide.{decLt}
 use native.Mathlib.Omega.{arith}
 use borrow.Author.Tests.{eqb-true, not-true}
 use lib.IntN.{ℤ, pos, pos-ne-negsuc}
 use lib.ListN.{length, getD, length-map}
 use lib.Ieee.{Float}
-use Rattle.lists.specs.Lists.{Has, upto, position, select}
+use Rattle.lists.specs.Lists.{Has, upto, position}
 use Rattle.lists.proofs.Members.{has-at, position-lt, select-true, select-position}
 use Rattle.lists.proofs.Upto.{length-upto}
 use Rattle.neighbors.specs.Places.{Place, stayCount}
@@ -21,7 +21,7 @@ use Rattle.map_state.proofs.Leaders.{lowest-of}
 use Rattle.infomap.specs.Infomap.{rank, relabelDense}
 use Rattle.cluster.specs.Cluster.{labelCount, cluster, NoGap}
 use Rattle.cluster.proofs.Relabelled.{relabel-at, relabel-long}
-use Rattle.cluster.proofs.Labelled.{minusOne, labelOf, ls, part, part-long, labels-are, labels-long, node-label, node-below, single-label, single-pos}
+use Rattle.cluster.proofs.Labelled.{minusOne, labelOf, ls, part, part-long, labels-are, node-label, node-below, single-label, single-pos}
 
 -- ---- of nodes
 

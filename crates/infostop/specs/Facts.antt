@@ -4,7 +4,7 @@ use mathlib.Core.Bool.{false}
 use Prim.Native.Nat.{ℕ, _<_}
 use lib.IntN.{pos, negsuc}
 use lib.ListN.{length, getD, length-replicate, getD-replicate}
-use lib.Ieee.{Float, nan}
+use lib.Ieee.{nan}
 use Rattle.float.specs.Binary64.{zero64}
 use Rattle.tracks.specs.declared.config.Config.{Config}
 use Rattle.infostop.specs.declared.model.Infostop.{Infostop}
