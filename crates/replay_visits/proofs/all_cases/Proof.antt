@@ -20,9 +20,6 @@ loop-holds c = omega arith
 one-case-requires : tie.Need-one-case-requires Inv-loop μ-loop
 one-case-requires c κs = search needs
 
-line-end-requires : tie.Need-line-end-requires Inv-loop μ-loop
-line-end-requires c κs = search needs
-
 sub-left : tie.Need-sub-left Inv-loop μ-loop
 sub-left c = omega arith
 
@@ -44,7 +41,6 @@ all-cases-spec =
     number-requires
     loop-holds
     one-case-requires
-    line-end-requires
     sub-left
     loop-less
     loop-again

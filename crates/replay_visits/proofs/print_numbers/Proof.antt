@@ -5,10 +5,10 @@ use Rattle.replay_visits.proofs.print_numbers.Statement.{statement}
 use Rattle.replay_visits.proofs.print_numbers.Tie as tie
 
 abbrev Inv-loop : tie.InvT-loop
-Inv-loop n out l₀ l = l ≤ n
+Inv-loop out i₀ i = i ≤ 8
 
 abbrev μ-loop : tie.MeasureT-loop
-μ-loop n out l₀ l = n - l
+μ-loop out i₀ i = 8 - i
 
 loop-holds : tie.Need-loop-holds Inv-loop μ-loop
 loop-holds c = search needs
@@ -22,8 +22,8 @@ element-copy-out-print-visit c = search needs
 print-visit-requires : tie.Need-print-visit-requires Inv-loop μ-loop
 print-visit-requires c κs = search needs
 
-add-l : tie.Need-add-l Inv-loop μ-loop
-add-l c = search needs
+add-i : tie.Need-add-i Inv-loop μ-loop
+add-i c = search needs
 
 loop-less : tie.Need-loop-less Inv-loop μ-loop
 loop-less c = search needs
@@ -44,7 +44,7 @@ print-numbers-spec =
     mul-print-visit
     element-copy-out-print-visit
     print-visit-requires
-    add-l
+    add-i
     loop-less
     loop-again
     returns)
