@@ -11,21 +11,19 @@ use lib.ListN.{length, getD, set, take, drop, length-append, length-drop, length
 use lib.Seq.{ext-getD, getD-set-same, getD-set-other, getD-take, getD-drop, length-take-le, take-add, drop-drop, drop-set-lt, take-at, take-all, drop-at}
 use lib.Ieee.{Float, nan}
 use borrow.Author.Count.{below-more}
-use borrow.Author.Tests.{ltb-true, ltb-false, lt-ltb, le-ltb, lt-leb}
+use borrow.Author.Tests.{le-ltb, le-leb, lt-leb}
 use Rattle.lists.specs.Lists.{overlay}
 use Rattle.lists.proofs.Overlay.{take-overlay, overlay-front}
-use Rattle.stay.specs.Trace.{Fix, fixes}
+use Rattle.tracks.specs.Columns.{readTime}
 use Rattle.infostop.proofs.Slices.{take-drop-take}
 use Rattle.records.specs.declared.FixRecord.{FixRecord}
-use Rattle.records.specs.Records.{fixOf, xsOf, ysOf, timesOf, marksOf, taken, marked}
-use Rattle.records.specs.Steps.{noRecord, putAt, setMark, markAt, steps, Holds}
+use Rattle.records.specs.Records.{xsOf, ysOf, timesOf, marksOf}
+use Rattle.records.specs.Steps.{noRecord, putAt, setMark, markAt, steps}
 use Rattle.records.proofs.Steps.{stored, length-put, length-mark, steps-length, steps-none}
 
--- The fixes of the columns are those of the records.
-pub fixes-are : (fs : List FixRecord) → fixes (xsOf fs) (ysOf fs) (timesOf fs) (marksOf fs) ≡ map fixOf fs
-unfolding fixes
-fixes-are [] = refl
-fixes-are (f ∷ fs) = ap (λ (z : List Fix). fixOf f ∷ z) (fixes-are fs)
+-- What stands in the column of times.
+abbrev timeIn : FixRecord → Float
+timeIn f = readTime (f .mark) (f .time)
 
 -- The three columns in one row.
 abbrev pub inRow : List FixRecord → List Float
@@ -53,7 +51,7 @@ module _ {A : Type 0} (d : A) (fs : List FixRecord) (f : FixRecord → A) (l : L
 pub record Filled (n j : ℕ) (fs : List FixRecord) (old l : List Float) : Type 0 where
   pub xs : (k : ℕ) → k < j → getD l k nan ≡ getD fs k noRecord .at .x
   pub ys : (k : ℕ) → k < j → getD l (n + k) nan ≡ getD fs k noRecord .at .y
-  pub times : (k : ℕ) → k < j → getD l (2 * n + k) nan ≡ getD fs k noRecord .time
+  pub times : (k : ℕ) → k < j → getD l (2 * n + k) nan ≡ timeIn (getD fs k noRecord)
   pub rest : drop (3 * n) l ≡ drop (3 * n) old
 
 module _ (n : ℕ) (fs : List FixRecord) (old l : List Float) (enough : 3 * n ≤ length l) where
@@ -70,19 +68,19 @@ module _ (n : ℕ) (fs : List FixRecord) (old l : List Float) (enough : 3 * n �
 
     -- What stands at another place p.
     other : (p : ℕ) → (p ≡ i → ⊥) → (p ≡ n + i → ⊥) → (p ≡ 2 * n + i → ⊥) → getD (stored n i f l) p nan ≡ getD l p nan
-    other p a b c = getD-set-other two (2 * n + i) p (f .time) nan c ∙ getD-set-other one (n + i) p (f .at .y) nan b ∙ getD-set-other l i p (f .at .x) nan a
+    other p a b c = getD-set-other two (2 * n + i) p (timeIn f) nan c ∙ getD-set-other one (n + i) p (f .at .y) nan b ∙ getD-set-other l i p (f .at .x) nan a
 
     at-x : getD (stored n i f l) i nan ≡ f .at .x
-    at-x = getD-set-other two (2 * n + i) i (f .time) nan (λ e. omega arith) ∙ getD-set-other one (n + i) i (f .at .y) nan (λ e. omega arith) ∙ getD-set-same l i (f .at .x) nan (omega arith)
+    at-x = getD-set-other two (2 * n + i) i (timeIn f) nan (λ e. omega arith) ∙ getD-set-other one (n + i) i (f .at .y) nan (λ e. omega arith) ∙ getD-set-same l i (f .at .x) nan (omega arith)
 
     at-y : getD (stored n i f l) (n + i) nan ≡ f .at .y
-    at-y = getD-set-other two (2 * n + i) (n + i) (f .time) nan (λ e. omega arith) ∙ getD-set-same one (n + i) (f .at .y) nan (simp length-set (omega arith))
+    at-y = getD-set-other two (2 * n + i) (n + i) (timeIn f) nan (λ e. omega arith) ∙ getD-set-same one (n + i) (f .at .y) nan (simp length-set (omega arith))
 
-    at-time : getD (stored n i f l) (2 * n + i) nan ≡ f .time
-    at-time = getD-set-same two (2 * n + i) (f .time) nan (simp length-set (omega arith))
+    at-time : getD (stored n i f l) (2 * n + i) nan ≡ timeIn f
+    at-time = getD-set-same two (2 * n + i) (timeIn f) nan (simp length-set (omega arith))
 
     behind : drop (3 * n) (stored n i f l) ≡ drop (3 * n) l
-    behind = drop-set-lt (3 * n) two (2 * n + i) (f .time) (omega arith) ∙ drop-set-lt (3 * n) one (n + i) (f .at .y) (omega arith) ∙ drop-set-lt (3 * n) l i (f .at .x) (omega arith)
+    behind = drop-set-lt (3 * n) two (2 * n + i) (timeIn f) (omega arith) ∙ drop-set-lt (3 * n) one (n + i) (f .at .y) (omega arith) ∙ drop-set-lt (3 * n) l i (f .at .x) (omega arith)
 
   more : (i : ℕ) → i < n → Filled n i fs old l → Filled n (i + 1) fs old (stored n i (getD fs i noRecord) l)
   more i less h =
@@ -136,31 +134,10 @@ module _ (fs : List FixRecord) (l : List Float) where
         ∙ ap₂ (λ (a b : List Float). a ++ b) (part-is nan fs (λ f. f .at .x) end 0 (omega (arith, same)) (λ k h. ap (λ (p : ℕ). getD end p nan) (zero-add k) ∙ all .xs k h))
         (take-add n n (drop n end)
         ∙ ap₂ (λ (a b : List Float). a ++ b) (part-is nan fs (λ f. f .at .y) end n (omega (arith, same)) (all .ys))
-        (ap (take n) (drop-drop n n end ∙ ap (λ (k : ℕ). drop k end) double) ∙ part-is nan fs (λ f. f .time) end (2 * n) (omega (arith, same)) (all .times)))
+        (ap (take n) (drop-drop n n end ∙ ap (λ (k : ℕ). drop k end) double) ∙ part-is nan fs timeIn end (2 * n) (omega (arith, same)) (all .times)))
 
-    long-end : end ≡ overlay (inRow fs) l
-    long-end = overlay-front (3 * n) l end (omega (arith, same)) (all .rest) ∙ ap (λ (z : List Float). overlay z l) in-front
-
-  stays : length l < 3 * n → (i : ℕ) (f : FixRecord) → putAt n i f l ≡ l
-  unfolding putAt
-  stays h i f = simp (lt-ltb (length l) (3 * n) h)
-
-  short-end : length l < 3 * n → end ≡ l
-  short-end h = steps-none (putAt n) fs l (stays h) n
-
-  all-columns : end ≡ taken fs l
-  unfolding taken
-  all-columns = go (ltb (length l) (3 * n)) refl
-    where
-      go : (b : Bool) → ltb (length l) (3 * n) ≡ b → end ≡ cond b l (overlay (inRow fs) l)
-      go true e = short-end (ltb-true (length l) (3 * n) e)
-      go false e = long-end (ltb-false (length l) (3 * n) e)
-
-  pub taken-end : (i : ℕ) → i ≡ n → steps (putAt n) fs l i ≡ taken fs l
-  taken-end i e = ap (steps (putAt n) fs l) e ∙ all-columns
-
-  pub taken-length : length (taken fs l) ≡ length l
-  taken-length = ap length (sym all-columns) ∙ same
+    pub columns-taken : end ≡ overlay (inRow fs) l
+    columns-taken = overlay-front (3 * n) l end (omega (arith, same)) (all .rest) ∙ ap (λ (z : List Float). overlay z l) in-front
 
 -- ---- all records: the marks
 module _ (fs : List FixRecord) (l : List ℕ) where
@@ -196,39 +173,26 @@ module _ (fs : List FixRecord) (l : List ℕ) where
         let e : length before ≡ length l = steps-length (markAt n′) fs l (length-mark n′) i in
         subst (λ (a : List ℕ). Marked (suc i) a) (sym (mark-is before e i (getD fs i noRecord) h)) (subst (λ (j : ℕ). Marked j (set before i (getD fs i noRecord .mark))) (add-one i) (next before e i h (marks-filled i (omega arith))))
 
-    long-marks : marks-end ≡ overlay (marksOf fs) l
-    long-marks =
+    pub marks-taken : marks-end ≡ overlay (marksOf fs) l
+    marks-taken =
         let a = marks-filled n′ (omega arith) in
         overlay-front n′ l marks-end (omega (arith, marks-same)) (a .rest) ∙ ap (λ (z : List ℕ). overlay z l) (part-is 0 fs (λ f. f .mark) marks-end 0 (omega (arith, marks-same)) (λ k h. ap (λ (p : ℕ). getD marks-end p 0) (zero-add k) ∙ a .front k h))
 
-  mark-stays : length l < n′ → (i : ℕ) (f : FixRecord) → markAt n′ i f l ≡ l
-  unfolding setMark
-  mark-stays h i f = simp (lt-ltb (length l) n′ h)
+-- ---- no record is to be taken apart
+pub columns-stay : (fs : List FixRecord) (l : List Float) (i : ℕ) → steps (putAt 0) fs l i ≡ l
+unfolding putAt
+columns-stay fs l = steps-none (putAt 0) fs l (λ i f. simp (le-ltb (length l) 0 (omega arith), le-leb 0 i (omega arith)))
 
-  short-marks : length l < n′ → marks-end ≡ l
-  short-marks h = steps-none (markAt n′) fs l (mark-stays h) n′
-
-  all-marks : marks-end ≡ marked fs l
-  unfolding marked
-  all-marks = go (ltb (length l) n′) refl
-    where
-      go : (b : Bool) → ltb (length l) n′ ≡ b → marks-end ≡ cond b l (overlay (marksOf fs) l)
-      go true e = short-marks (ltb-true (length l) n′ e)
-      go false e = long-marks (ltb-false (length l) n′ e)
-
-  pub marked-end : (i : ℕ) → i ≡ n′ → steps (markAt n′) fs l i ≡ marked fs l
-  marked-end i e = ap (steps (markAt n′) fs l) e ∙ all-marks
-
-  pub marked-length : length (marked fs l) ≡ length l
-  marked-length = ap length (sym all-marks) ∙ marks-same
+pub marks-stay : (fs : List FixRecord) (l : List ℕ) (i : ℕ) → steps (markAt 0) fs l i ≡ l
+unfolding setMark
+marks-stay fs l = steps-none (markAt 0) fs l (λ i f. simp (le-ltb (length l) 0 (omega arith), le-leb 0 i (omega arith)))
 
 -- ---- what the slices hold
-pub holds : (fs : List FixRecord) (columns : List Float) (marks : List ℕ) → Holds fs (taken fs columns) (marked fs marks)
-unfolding taken marked
-holds fs columns marks = record {
-  columns-hold = λ h. let e = le-ltb (length columns) (3 * length fs) (omega (arith, taken-length fs columns)) in rw e (ap (λ (k : ℕ). take k (overlay (inRow fs) columns)) (sym (row-length fs)) ∙ take-overlay (inRow fs) columns);
-  marks-hold = λ h. let e = le-ltb (length marks) (length fs) (omega (arith, marked-length fs marks)) in rw e (ap (λ (k : ℕ). take k (overlay (marksOf fs) marks)) (sym (length-map fs (λ (f : FixRecord). f .mark))) ∙ take-overlay (marksOf fs) marks);
-}
+pub columns-held : (fs : List FixRecord) (columns : List Float) → take (3 * length fs) (overlay (inRow fs) columns) ≡ inRow fs
+columns-held fs columns = ap (λ (k : ℕ). take k (overlay (inRow fs) columns)) (sym (row-length fs)) ∙ take-overlay (inRow fs) columns
+
+pub marks-held : (fs : List FixRecord) (marks : List ℕ) → take (length fs) (overlay (marksOf fs) marks) ≡ marksOf fs
+marks-held fs marks = ap (λ (k : ℕ). take k (overlay (marksOf fs) marks)) (sym (length-map fs (λ (f : FixRecord). f .mark))) ∙ take-overlay (marksOf fs) marks
 
 -- The three parts of such columns.
 module _ (fs : List FixRecord) (columns : List Float) (enough : 3 * length fs ≤ length columns) (h : take (3 * length fs) columns ≡ inRow fs) where
@@ -245,7 +209,7 @@ module _ (fs : List FixRecord) (columns : List Float) (enough : 3 * length fs �
   times-held =
       part (2 * length fs) (omega arith)
       ∙ ap (take (length fs)) (ap (λ (k : ℕ). drop k (inRow fs)) twice ∙ sym (drop-drop (length fs) (length fs) (inRow fs)) ∙ ap (drop (length fs)) (drop-at (xsOf fs) (ysOf fs ++ timesOf fs) (length fs) (length-map fs _)) ∙ drop-at (ysOf fs) (timesOf fs) (length fs) (length-map fs _))
-      ∙ take-all (length fs) (timesOf fs) (omega (arith, length-map fs (λ (f : FixRecord). f .time)))
+      ∙ take-all (length fs) (timesOf fs) (omega (arith, length-map fs timeIn))
     where
       twice : 2 * length fs ≡ length fs + length fs
       twice = omega arith

@@ -1,160 +1,274 @@
--- The fit of records: the refusal of slices that are too short, and what the fit over slices promises of the records.
+-- The fit of records: its outcome by the verdict on them, what `fit_taken` promises of them, and how all ends.
 use mathlib.Core.Path.{_≡_, refl, sym, ap, _∙_, subst}
-use mathlib.Core.Bool.{true, false, cond}
-use mathlib.Core.List.{List, [], _∷_}
+use mathlib.Core.Bool.{Bool, true, false, cond}
+use mathlib.Core.List.{List, [], _∷_, _++_, map}
 use Prim.Native.Nat.{ℕ, zero, suc, _+_, _-_, _*_, _<_, _≤_}
 use native.Mathlib.Omega.{arith}
-use borrow.Author.Tests.{lt-ltb, le-leb, lt-leb}
+use borrow.Author.Tests.{ltb-false, leb-true}
+use lib.Dec.{leb, ltb}
 use lib.IntN.{ℤ}
 use lib.ListN.{length, take, length-map}
 use lib.Ieee.{Float}
-use Rattle.stay.specs.Trace.{Fix}
+use Rattle.lists.specs.Lists.{overlay}
+use Rattle.lists.proofs.Tests.{clash, and-left, and-right}
+use Rattle.distance.specs.Distance.{euclidean}
+use Rattle.stay.specs.Trace.{Fix, fixes}
 use Rattle.tracks.specs.declared.config.Config.{Config}
 use Rattle.tracks.specs.declared.refusal.Refusal.{Refusal}
-use Rattle.tracks.specs.declared.refusal.Refusal.the-variants.{Work}
 use Rattle.tracks.specs.declared.refusal.Checked.{Checked}
 use Rattle.tracks.specs.declared.refusal.Checked.the-variants.{Accepted, Refused}
-use Rattle.tracks.specs.Checks.{firstOf, inTurn}
+use Rattle.tracks.specs.Checks.{isRefused, firstOf}
 use Rattle.tracks.specs.Settings.{checkConfig}
-use Rattle.tracks.specs.Tracks.{traces, checkLengths, checkCounts, checkWork, checkContents, checkTracks}
-use Rattle.tracks.proofs.Turns.{refuse}
-use Rattle.tracks.proofs.Lengths.{counts-few}
-use Rattle.fit.specs.Fit.{Outcome, refused, unlessRefused, fit}
+use Rattle.tracks.specs.Tracks.{traces, checkTracks}
+use Rattle.tracks.proofs.Turns.{first-both}
+use Rattle.tracks.proofs.Accepted.{tracks-accepted}
+use Rattle.fit.specs.Fit.{Outcome, refused, fitted, unlessRefused, fitTraces, fit}
 use Rattle.infostop.specs.declared.model.Infostop.{Infostop}
 use Rattle.infostop.specs.declared.answer.Answer.the-variants as answer
 use Rattle.infostop.specs.declared.answer.Fit.{Fit}
-use Rattle.infostop.specs.Ends.{Ended, WorkEnds, HoldsDemand3}
+use Rattle.infostop.specs.Ends.{toldBy, keepsWork, Promised}
 use Rattle.infostop.proofs.Slices.{lent}
-use Rattle.infostop.proofs.Ending.{refused-ends}
-use Rattle.infostop.proofs.Promises.{ended-demand3}
+use Rattle.infostop.proofs.Ending.{refused-ends, no-kept}
+use Rattle.infostop.proofs.Promises.{both-accepted, free-work}
 use Rattle.records.specs.declared.FixRecord.{FixRecord}
-use Rattle.records.specs.Records.{xsOf, ysOf, timesOf, marksOf, taken, marked, roomFor, fitRecords}
-use Rattle.records.specs.Steps.{Holds, orElse, shortRefusal, outcome, Promised}
-use Rattle.records.proofs.Columns.{fixes-are, taken-length, marked-length, holds, xs-held, ys-held, times-held}
+use Rattle.records.specs.declared.judge.Judge.{Judge}
+use Rattle.records.specs.declared.judge.Packed.{Packed}
+use Rattle.records.specs.declared.judge.Verdict.{Verdict}
+use Rattle.records.specs.Records.{fixOf, xsOf, ysOf, timesOf, marksOf, roomFor, workFloats, fitRecords, taken, marked}
+use Rattle.records.specs.Judge.{started, run, packed, unpacked, checksFrom, checkRecords, verdictBy}
+use Rattle.records.specs.Steps.{putAt, markAt, steps, Ready}
+use Rattle.records.proofs.Steps.{length-put, length-mark, steps-length}
+use Rattle.records.proofs.Columns.{inRow, columns-taken, marks-taken, columns-stay, marks-stay, columns-held, marks-held, xs-held, ys-held, times-held}
+use Rattle.records.proofs.Judged.{fixes-are, checks-told}
+use Rattle.records.proofs.Packing.{unpacked-all}
+use Rattle.records.proofs.Below.{low, low-records}
 
--- ---- too short: by the checks
-module _ (c : Config) (n : ℕ) (lens : List ℕ) (labels cap : ℕ) where
-  pub config-first : (e : Refusal) → checkConfig c ≡ Refused e → e ≡ shortRefusal c n lens labels cap
-  unfolding shortRefusal
-  config-first e p = rw p refl
+-- ---- the outcome by the checks
 
-  pub lengths-next : (e : Refusal) → checkConfig c ≡ Accepted → checkLengths lens n n n n labels ≡ Refused e → e ≡ shortRefusal c n lens labels cap
-  unfolding shortRefusal
-  lengths-next e p q = rw (p, q) refl
+two-checks : (a b : Checked) (o : Outcome) (e : Refusal) → firstOf a b ≡ Refused e → unlessRefused a (unlessRefused b o) ≡ refused e
+unfolding firstOf unlessRefused
+two-checks (Refused d) b o e h = cc
+two-checks Accepted (Refused d) o e h = cc
+two-checks Accepted Accepted o e h = absurd (let z : _≡_ {A = ℕ} 0 1 = cc in omega arith)
 
-  pub counts-next : (e : Refusal) → checkConfig c ≡ Accepted → checkLengths lens n n n n labels ≡ Accepted → checkCounts (length lens) n cap ≡ Refused e → e ≡ shortRefusal c n lens labels cap
-  unfolding shortRefusal
-  counts-next e p q r = rw (p, q, r) refl
-
-  pub work-last : checkConfig c ≡ Accepted → checkLengths lens n n n n labels ≡ Accepted → checkCounts (length lens) n cap ≡ Accepted → Work ≡ shortRefusal c n lens labels cap
-  unfolding shortRefusal
-  work-last p q r = rw (p, q, r) refl
-
--- ---- too short: by the definition, as the fit with no work slice
 squares : (n cap : ℕ) → 1 ≤ cap → 0 < 4 * n + cap * cap
 squares n zero h = absurd (omega arith)
 squares n (suc k) h = omega arith
 
-no-work : (traces n cap words : ℕ) → checkCounts traces n cap ≡ Accepted → checkWork n cap 0 words ≡ Refused Work
-unfolding checkWork
-no-work traces n cap words h = refuse _ Work (rw (lt-ltb 0 (4 * n + cap * cap) (squares n cap (counts-few traces n cap h .some-place))) refl)
+module _ (c : Config) (fs : List FixRecord) (lens : List ℕ) (labels cap columns marks floats words : ℕ) where
+  abbrev verdict : Checked
+  verdict = checkRecords c fs lens labels cap columns marks floats words
 
-in-turn : (a b w d : Checked) → (b ≡ Accepted → w ≡ Refused Work) → inTurn (a ∷ b ∷ w ∷ d ∷ []) ≡ Refused (orElse a (orElse b Work))
-unfolding inTurn firstOf
-in-turn (Refused e) b w d h = refl
-in-turn Accepted (Refused e) w d h = refl
-in-turn Accepted Accepted w d h = rw (h refl) refl
+  abbrev outcome : Outcome
+  outcome = fitRecords c fs lens labels cap columns marks floats words
 
-after-config : (k t : Checked) (o : Outcome) (e : Refusal) → t ≡ Refused e → unlessRefused k (unlessRefused t o) ≡ refused (orElse k e)
-unfolding unlessRefused
-after-config (Refused d) t o e h = refl
-after-config Accepted t o e h = rw h refl
+  pub outcome-refused : (e : Refusal) → verdict ≡ Refused e → outcome ≡ refused e
+  unfolding fitRecords fit checkRecords
+  outcome-refused e h = two-checks _ _ _ e h
 
-fit-short : (c : Config) (n : ℕ) (xs ys ts : List Float) (ms lens : List ℕ) (labels cap words : ℕ) → length xs ≡ n → length ys ≡ n → length ts ≡ n → length ms ≡ n
-    → fit c xs ys ts ms lens labels cap 0 words ≡ refused (shortRefusal c n lens labels cap)
-unfolding fit checkTracks shortRefusal
-fit-short c n xs ys ts ms lens labels cap words a b d e =
-    after-config (checkConfig c) (checkTracks xs ys ts ms lens labels cap 0 words) _ (orElse (checkLengths lens n n n n labels) (orElse (checkCounts (length lens) n cap) Work))
-    (rw (a, b, d, e) (in-turn (checkLengths lens n n n n labels) (checkCounts (length lens) n cap) (checkWork n cap 0 words) (checkContents xs ys ts ms lens) (no-work (length lens) n cap words)))
+  pub keeps-below : (d : Checked) → verdict ≡ d → keepsWork outcome ≡ isRefused d
+  unfolding fitRecords checkRecords
+  keeps-below (Refused e) h = ap keepsWork (outcome-refused e h) ∙ ap low (sym h) ∙ low-records c fs lens labels cap columns marks floats words
+  keeps-below Accepted h =
+      let both = first-both _ _ h in
+      ap keepsWork (both-accepted c (xsOf fs) (ysOf fs) (timesOf fs) (marksOf fs) lens labels cap (workFloats (length fs) columns marks floats) words (both .0) (both .1))
+      ∙ free-work euclidean c cap (traces lens (fixes (xsOf fs) (ysOf fs) (timesOf fs) (marksOf fs)))
 
--- ---- what is promised of the records
-module _ (m : Infostop) (fs : List FixRecord) (lens : List ℕ) (old : List ℤ) (cap columns marks : ℕ) (floats : List Float) (words : List ℤ) where
+  -- Records that pass have room.
+  pub has-room : verdict ≡ Accepted → roomFor (length fs) columns marks ≡ true
+  unfolding checkRecords workFloats
+  has-room h = go (roomFor (length fs) columns marks) refl
+    where
+      go : (b : Bool) → roomFor (length fs) columns marks ≡ b → b ≡ true
+      go true e = refl
+      go false e =
+          let w = tracks-accepted (xsOf fs) (ysOf fs) (timesOf fs) (marksOf fs) lens labels cap (cond (roomFor (length fs) columns marks) floats 0) words (first-both _ _ h .1) in
+          let l : 4 * length (xsOf fs) + cap * cap ≤ 0 = rw e at (w .roomy .floats-length) in
+          let p = squares (length (xsOf fs)) cap (w .some-place) in
+          absurd (omega arith)
+
+pub room-columns : (n columns marks : ℕ) → roomFor n columns marks ≡ true → 3 * n ≤ columns
+unfolding roomFor
+room-columns n columns marks h = leb-true (3 * n) columns (and-left (leb (3 * n) columns) (leb n marks) h)
+
+pub room-marks : (n columns marks : ℕ) → roomFor n columns marks ≡ true → n ≤ marks
+unfolding roomFor
+room-marks n columns marks h = leb-true n marks (and-right (leb (3 * n) columns) (leb n marks) h)
+
+-- ---- what `fit_taken` promises
+module _ (m : Infostop) (fs : List FixRecord) (lens : List ℕ) (old : List ℤ) (cap : ℕ) (columns : List Float) (marks : List ℕ) (floats : List Float) (words : List ℤ) (v : Verdict)
+    (w : Ready (m .config) fs lens (length old) cap (length floats) (length words) v columns marks) where
+  abbrev d : Checked
+  d = checkRecords (m .config) fs lens (length old) cap (length columns) (length marks) (length floats) (length words)
+
   abbrev o : Outcome
-  o = outcome m fs lens old cap columns marks floats words
+  o = fitRecords (m .config) fs lens (length old) cap (length columns) (length marks) (length floats) (length words)
 
-  -- Demand 3 follows from the end.
-  promised : (r : Fit) (labels : List ℤ) (floats' : List Float) (words' : List ℤ) → Ended m old o r labels → WorkEnds o floats words floats' words' → Promised m fs lens old cap columns marks floats words r labels floats' words'
+  abbrev Ends : Fit → List ℤ → List Float → List ℤ → Type 0
+  Ends = Promised m old floats words o (traces lens (map fixOf fs))
+
+  is-judged : v .checked ≡ d
+  unfolding verdictBy
+  is-judged = ap (λ (u : Verdict). u .checked) (w .judged)
+
+  all-fixes : v .checked ≡ Accepted → v .fixes ≡ length fs
+  unfolding verdictBy
+  all-fixes h = ap (λ (u : Verdict). u .fixes) (w .judged) ∙ ap (λ (u : Checked). cond (isRefused u) 0 (length fs)) (sym is-judged ∙ h)
+
+  roomy : v .checked ≡ Accepted → roomFor (length fs) (length columns) (length marks) ≡ true
+  roomy h = has-room (m .config) fs lens (length old) cap (length columns) (length marks) (length floats) (length words) (sym is-judged ∙ h)
+
+  pub promised-refused : (e : Refusal) → v .checked ≡ Refused e → (r : Fit) → r ≡ record { answer = answer.Refused e; model = m } → Ends r old floats words
+  promised-refused e h r q =
+      rw q record {
+        ended = refused-ends m old o e (outcome-refused (m .config) fs lens (length old) cap (length columns) (length marks) (length floats) (length words) e (sym is-judged ∙ h));
+        work = λ z. (refl, refl);
+        demand3 = λ k. λ n. λ z. no-kept _ _ _ _ (sym (ap toldBy z));
+      }
+
+  -- Records that pass have long enough slices.
+  pub never-short : {A : Type 0} → v .checked ≡ Accepted → length columns < 3 * v .fixes → A
+  never-short h l =
+      let e = all-fixes h in
+      let p = room-columns (length fs) (length columns) (length marks) (roomy h) in
+      absurd (omega arith)
+
+  pub never-few : {A : Type 0} → v .checked ≡ Accepted → length marks < v .fixes → A
+  never-few h l =
+      let e = all-fixes h in
+      let p = room-marks (length fs) (length columns) (length marks) (roomy h) in
+      absurd (omega arith)
+
+  -- What is promised of columns that are those of the records.
+  abbrev Of : Fit → List ℤ → List Float → List ℤ → List Float → List Float → List Float → List ℕ → ℕ → Type 0
+  Of r labels floats' words' xs ys ts ms room =
+      Promised m old floats words (fit (m .config) xs ys ts ms lens (length old) cap room (length words)) (traces lens (fixes xs ys ts ms)) r labels floats' words'
+
+  by-columns : (r : Fit) (labels : List ℤ) (floats' : List Float) (words' : List ℤ) (xs ys ts : List Float) (ms : List ℕ) (room : ℕ)
+      → xs ≡ xsOf fs → ys ≡ ysOf fs → ts ≡ timesOf fs → ms ≡ marksOf fs → room ≡ workFloats (length fs) (length columns) (length marks) (length floats)
+      → Of r labels floats' words' xs ys ts ms room → Ends r labels floats' words'
   unfolding fitRecords
-  promised r labels floats' words' x w = (
-    x,
-    w,
-    subst (λ (z : List Fix). HoldsDemand3 (m .config) (traces lens z) r labels) (fixes-are fs)
-        (ended-demand3 m (xsOf fs) (ysOf fs) (timesOf fs) (marksOf fs) lens old cap (cond (roomFor (length fs) columns marks) (length floats) 0) (length words) r labels x),
-  )
+  by-columns r labels floats' words' xs ys ts ms room px py pt pm pr p =
+      let W = workFloats (length fs) (length columns) (length marks) (length floats) in
+      subst (λ (z : List Fix). Promised m old floats words (fit (m .config) (xsOf fs) (ysOf fs) (timesOf fs) (marksOf fs) lens (length old) cap W (length words)) (traces lens z) r labels floats' words') (fixes-are fs)
+      (subst (λ (z : ℕ). Of r labels floats' words' (xsOf fs) (ysOf fs) (timesOf fs) (marksOf fs) z) pr
+      (subst (λ (z : List ℕ). Of r labels floats' words' (xsOf fs) (ysOf fs) (timesOf fs) z room) pm
+      (subst (λ (z : List Float). Of r labels floats' words' (xsOf fs) (ysOf fs) z ms room) pt
+      (subst (λ (z : List Float). Of r labels floats' words' (xsOf fs) z ts ms room) py
+      (subst (λ (z : List Float). Of r labels floats' words' z ys ts ms room) px p)))))
 
-  outcome-short : roomFor (length fs) columns marks ≡ false → o ≡ refused (shortRefusal (m .config) (length fs) lens (length old) cap)
-  unfolding fitRecords
-  outcome-short e = rw e (fit-short (m .config) (length fs) (xsOf fs) (ysOf fs) (timesOf fs) (marksOf fs) lens (length old) cap (length words) (length-map fs _) (length-map fs _) (length-map fs _) (length-map fs _))
-
-  pub promised-short : (n : ℕ) → length fs ≡ n → roomFor n columns marks ≡ false → (r : Fit) → r ≡ record { answer = answer.Refused (shortRefusal (m .config) n lens (length old) cap); model = m }
-      → Promised m fs lens old cap columns marks floats words r old floats words
-  promised-short n is e r q =
-      promised r old floats words
-      (subst (λ (z : Fit). Ended m old o z old) (sym q)
-      (refused-ends m old o (shortRefusal (m .config) n lens (length old) cap)
-      (outcome-short (ap (λ (k : ℕ). roomFor k columns marks) is ∙ e) ∙ ap (λ (k : ℕ). refused (shortRefusal (m .config) k lens (length old) cap)) is)))
-      (λ z. (refl, refl))
-
-  pub promised-by : (xs ys ts : List Float) (ms : List ℕ) → xs ≡ xsOf fs → ys ≡ ysOf fs → ts ≡ timesOf fs → ms ≡ marksOf fs → roomFor (length fs) columns marks ≡ true
-      → (r : Fit) (labels : List ℤ) (floats' : List Float) (words' : List ℤ)
-      → Ended m old (fit (m .config) xs ys ts ms lens (length old) cap (length floats) (length words)) r labels
-      → WorkEnds (fit (m .config) xs ys ts ms lens (length old) cap (length floats) (length words)) floats words floats' words'
-      → Promised m fs lens old cap columns marks floats words r labels floats' words'
-  unfolding fitRecords
-  promised-by xs ys ts ms a b d e room r labels floats' words' x w =
-      let is : fit (m .config) xs ys ts ms lens (length old) cap (length floats) (length words) ≡ o = rw (a, b, d, e, room) refl in
-      promised r labels floats' words' (subst (λ (z : Outcome). Ended m old z r labels) is x) (subst (λ (z : Outcome). WorkEnds z floats words floats' words') is w)
-
--- Room, or not.
-pub no-columns : (n columns marks : ℕ) → columns < 3 * n → roomFor n columns marks ≡ false
-unfolding roomFor
-no-columns n columns marks h = rw (lt-leb (3 * n) columns h) refl
-
-pub no-marks : (n columns marks : ℕ) → 3 * n ≤ columns → marks < n → roomFor n columns marks ≡ false
-unfolding roomFor
-no-marks n columns marks h k = rw (le-leb (3 * n) columns h, lt-leb n marks k) refl
-
-room : (n columns marks : ℕ) → 3 * n ≤ columns → n ≤ marks → roomFor n columns marks ≡ true
-unfolding roomFor
-room n columns marks h k = rw (le-leb (3 * n) columns h, le-leb n marks k) refl
-
--- ---- what `fit_taken` comes to where there is room
-module _ (m : Infostop) (fs : List FixRecord) (lens : List ℕ) (old : List ℤ) (cap : ℕ) (columns : List Float) (marks : List ℕ) (floats : List Float) (words : List ℤ) where
-  abbrev Of : ℕ → Outcome
-  Of n = fit (m .config) (lent 0 n columns) (lent n (2 * n) columns) (lent (2 * n) (3 * n) columns) (lent 0 n marks) lens (length old) cap (length floats) (length words)
-
-  pub promised-long : (n : ℕ) → length fs ≡ n → 3 * n ≤ length columns → n ≤ length marks → Holds fs columns marks → (r : Fit) (labels : List ℤ) (floats' : List Float) (words' : List ℤ)
-      → Ended m old (Of n) r labels → WorkEnds (Of n) floats words floats' words' → Promised m fs lens old cap (length columns) (length marks) floats words r labels floats' words'
-  promised-long n is long enough h r labels floats' words' x w =
-      let l : 3 * length fs ≤ length columns = omega arith in
-      let held = h .columns-hold l in
+  pub promised-taken : v .checked ≡ Accepted → (r : Fit) (labels : List ℤ) (floats' : List Float) (words' : List ℤ) (n : ℕ) → v .fixes ≡ n
+      → Of r labels floats' words' (lent 0 n columns) (lent n (2 * n) columns) (lent (2 * n) (3 * n) columns) (lent 0 n marks) (length floats) → Ends r labels floats' words'
+  unfolding workFloats
+  promised-taken h r labels floats' words' n i p =
+      let is : length fs ≡ n = sym (all-fixes h) ∙ i in
+      let l = room-columns (length fs) (length columns) (length marks) (roomy h) in
+      let held = w .columns-hold h in
       let first : n - 0 ≡ length fs = omega arith in
       let second : 2 * n - n ≡ length fs = omega arith in
       let third : 3 * n - 2 * n ≡ length fs = omega arith in
       let double : 2 * n ≡ 2 * length fs = omega arith in
-      promised-by m fs lens old cap (length columns) (length marks) floats words _ _ _ _
+      by-columns r labels floats' words' _ _ _ _ _
       (ap (λ (k : ℕ). take k columns) first ∙ xs-held fs columns l held)
       (rw (second, sym is) (ys-held fs columns l held))
       (rw (third, double) (times-held fs columns l held))
-      (ap (λ (k : ℕ). take k marks) first ∙ h .marks-hold (omega arith))
-      (room (length fs) (length columns) (length marks) l (omega arith))
-      r labels floats' words' x w
+      (ap (λ (k : ℕ). take k marks) first ∙ w .marks-hold h)
+      (rw (roomy h))
+      p
 
--- ---- the columns and marks that `take_apart` leaves
+-- ---- how all ends
 module _ (m : Infostop) (fs : List FixRecord) (lens : List ℕ) (old : List ℤ) (cap : ℕ) (columns : List Float) (marks : List ℕ) (floats : List Float) (words : List ℤ) where
+  abbrev d₁ : Checked
+  d₁ = checkRecords (m .config) fs lens (length old) cap (length columns) (length marks) (length floats) (length words)
+
+  abbrev o₁ : Outcome
+  o₁ = fitRecords (m .config) fs lens (length old) cap (length columns) (length marks) (length floats) (length words)
+
+  -- The verdict that the code reaches, and the slices after it.
+  abbrev v₁ : Verdict
+  v₁ = verdictBy (checksFrom (m .config) (run lens (started lens) fs) (length fs) lens (length old) cap (length columns) (length marks) (length floats) (length words)) (length fs)
+
+  abbrev columns₁ : List Float
+  columns₁ = steps (putAt (v₁ .fixes)) fs columns (length fs)
+
+  abbrev marks₁ : List ℕ
+  marks₁ = steps (markAt (v₁ .fixes)) fs marks (length fs)
+
+  verdict-is : v₁ ≡ verdictBy d₁ (length fs)
+  verdict-is = ap (λ (z : Checked). verdictBy z (length fs)) (checks-told (m .config) fs lens (length old) cap (length columns) (length marks) (length floats) (length words))
+
+  count-is : (z : Checked) → d₁ ≡ z → v₁ .fixes ≡ cond (isRefused z) 0 (length fs)
+  count-is z h = ap (λ (u : Verdict). u .fixes) verdict-is ∙ (unfold verdictBy in ap (λ (u : Checked). cond (isRefused u) 0 (length fs)) h)
+
+  columns-length : length columns₁ ≡ length columns
+  columns-length = steps-length (putAt (v₁ .fixes)) fs columns (length-put (v₁ .fixes)) (length fs)
+
+  marks-length : length marks₁ ≡ length marks
+  marks-length = steps-length (markAt (v₁ .fixes)) fs marks (length-mark (v₁ .fixes)) (length fs)
+
+  module _ (h : d₁ ≡ Accepted) where
+    room : roomFor (length fs) (length columns) (length marks) ≡ true
+    room = has-room (m .config) fs lens (length old) cap (length columns) (length marks) (length floats) (length words) h
+
+    columns-all : columns₁ ≡ overlay (inRow fs) columns
+    columns-all = ap (λ (k : ℕ). steps (putAt k) fs columns (length fs)) (count-is Accepted h) ∙ columns-taken fs columns (room-columns (length fs) (length columns) (length marks) room)
+
+    marks-all : marks₁ ≡ overlay (marksOf fs) marks
+    marks-all = ap (λ (k : ℕ). steps (markAt k) fs marks (length fs)) (count-is Accepted h) ∙ marks-taken fs marks (room-marks (length fs) (length columns) (length marks) room)
+
+  columns-end : (z : Checked) → d₁ ≡ z → columns₁ ≡ cond (isRefused z) columns (overlay (inRow fs) columns)
+  columns-end Accepted h = columns-all h
+  columns-end (Refused e) h = ap (λ (k : ℕ). steps (putAt k) fs columns (length fs)) (count-is (Refused e) h) ∙ columns-stay fs columns (length fs)
+
+  marks-end : (z : Checked) → d₁ ≡ z → marks₁ ≡ cond (isRefused z) marks (overlay (marksOf fs) marks)
+  marks-end Accepted h = marks-all h
+  marks-end (Refused e) h = ap (λ (k : ℕ). steps (markAt k) fs marks (length fs)) (count-is (Refused e) h) ∙ marks-stay fs marks (length fs)
+
+  keeps : keepsWork o₁ ≡ isRefused d₁
+  keeps = keeps-below (m .config) fs lens (length old) cap (length columns) (length marks) (length floats) (length words) d₁ refl
+
+  pub columns-are : columns₁ ≡ taken o₁ fs columns
+  unfolding taken
+  columns-are = columns-end d₁ refl ∙ ap (λ (b : Bool). cond b columns (overlay (inRow fs) columns)) (sym keeps)
+
+  pub marks-are : marks₁ ≡ marked o₁ fs marks
+  unfolding marked
+  marks-are = marks-end d₁ refl ∙ ap (λ (b : Bool). cond b marks (overlay (marksOf fs) marks)) (sym keeps)
+
+  is-ready : Ready (m .config) fs lens (length old) cap (length floats) (length words) v₁ columns₁ marks₁
+  is-ready = record {
+    judged = rw (columns-length, marks-length) verdict-is;
+    columns-hold = λ h. rw (columns-all (passes h)) (columns-held fs columns);
+    marks-hold = λ h. rw (marks-all (passes h)) (marks-held fs marks);
+  }
+    where
+      passes : v₁ .checked ≡ Accepted → d₁ ≡ Accepted
+      passes h = sym (ap (λ (u : Verdict). u .checked) verdict-is ∙ unfold verdictBy in refl) ∙ h
+
+  -- From what `fit_taken` promises of the records.
   pub of-records : (r : Fit) (labels : List ℤ) (floats' : List Float) (words' : List ℤ)
-      → ((gs : List FixRecord) → length gs ≡ length fs → Holds gs (taken fs columns) (marked fs marks) → Promised m gs lens old cap (length (taken fs columns)) (length (marked fs marks)) floats words r labels floats' words')
-      → Promised m fs lens old cap (length columns) (length marks) floats words r labels floats' words'
+      → ((gs : List FixRecord) → Ready (m .config) gs lens (length old) cap (length floats) (length words) v₁ columns₁ marks₁
+      → Promised m old floats words (fitRecords (m .config) gs lens (length old) cap (length columns₁) (length marks₁) (length floats) (length words)) (traces lens (map fixOf gs)) r labels floats' words')
+      → Promised m old floats words o₁ (traces lens (map fixOf fs)) r labels floats' words'
   of-records r labels floats' words' p =
-      subst (λ (k : ℕ). Promised m fs lens old cap k (length marks) floats words r labels floats' words') (taken-length fs columns)
-      (subst (λ (k : ℕ). Promised m fs lens old cap (length (taken fs columns)) k floats words r labels floats' words') (marked-length fs marks) (p fs refl (holds fs columns marks)))
+      subst (λ (k : ℕ). Promised m old floats words (fitRecords (m .config) fs lens (length old) cap k (length marks) (length floats) (length words)) (traces lens (map fixOf fs)) r labels floats' words') columns-length
+      (subst (λ (k : ℕ). Promised m old floats words (fitRecords (m .config) fs lens (length old) cap (length columns₁) k (length floats) (length words)) (traces lens (map fixOf fs)) r labels floats' words') marks-length (p fs is-ready))
+
+  -- All, from what the steps of `fit_records` hand back: the machine p, the verdict v, the number k of records to take.
+  abbrev Holds : Verdict → ℕ → Fit → List ℤ → List Float → List ℤ → Type 0
+  Holds v k r labels floats' words' = (gs : List FixRecord) → Ready (m .config) gs lens (length old) cap (length floats) (length words) v (steps (putAt k) fs columns (length fs)) (steps (markAt k) fs marks (length fs))
+      → Promised m old floats words (fitRecords (m .config) gs lens (length old) cap (length (steps (putAt k) fs columns (length fs))) (length (steps (markAt k) fs marks (length fs))) (length floats) (length words)) (traces lens (map fixOf gs)) r labels floats' words'
+
+  pub all-end : (p : Packed) (v : Verdict) (k : ℕ) → p ≡ packed (run lens (started lens) fs)
+      → v ≡ verdictBy (checksFrom (m .config) (unpacked p) (length fs) lens (length old) cap (length columns) (length marks) (length floats) (length words)) (length fs) → k ≡ v .fixes
+      → (r : Fit) (labels : List ℤ) (floats' : List Float) (words' : List ℤ) (columns' : List Float) (marks' : List ℕ)
+      → columns' ≡ steps (putAt k) fs columns (length fs) → marks' ≡ steps (markAt k) fs marks (length fs) → Holds v k r labels floats' words'
+      → Promised m old floats words o₁ (traces lens (map fixOf fs)) r labels floats' words' × (columns' ≡ taken o₁ fs columns) × (marks' ≡ marked o₁ fs marks)
+  all-end p v k ep ev ek r labels floats' words' columns' marks' ec em h =
+      let v-is : v ≡ v₁ =
+      ev ∙ ap (λ (s : Judge). verdictBy (checksFrom (m .config) s (length fs) lens (length old) cap (length columns) (length marks) (length floats) (length words)) (length fs)) (ap unpacked ep ∙ unpacked-all lens fs) in
+      let k-is : k ≡ v₁ .fixes = ek ∙ ap (λ (u : Verdict). u .fixes) v-is in (
+        of-records r labels floats' words' (subst (λ (u : Verdict). Holds u (v₁ .fixes) r labels floats' words') v-is (subst (λ (j : ℕ). Holds v j r labels floats' words') k-is h)),
+        ec ∙ ap (λ (j : ℕ). steps (putAt j) fs columns (length fs)) k-is ∙ columns-are,
+        em ∙ ap (λ (j : ℕ). steps (markAt j) fs marks (length fs)) k-is ∙ marks-are,
+      )

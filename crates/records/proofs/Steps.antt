@@ -5,10 +5,13 @@ use native.Mathlib.Omega.{arith}
 use native.Mathlib.Numerals.{add-one}
 use mathlib.Core.Bool.{Bool, true, false, cond}
 use mathlib.Core.List.{List}
+use borrow.Author.Tests.{le-leb, lt-leb}
 use lib.Dec.{ltb, leb}
 use lib.ListN.{length, getD, set, length-set}
 use lib.Ieee.{Float}
+use Rattle.tracks.specs.Columns.{readTime}
 use Rattle.records.specs.declared.FixRecord.{FixRecord}
+use Rattle.records.specs.Records.{roomFor}
 use Rattle.records.specs.Steps.{noRecord, putAt, setMark, markAt, steps}
 
 -- The code compares a third of the length.
@@ -18,13 +21,26 @@ too-short a n h = omega arith
 pub long-enough : (a n : ℕ) → n ≤ a / 3 → 3 * n ≤ a
 long-enough a n h = omega arith
 
+-- Room, or not.
+pub no-columns : (n columns marks : ℕ) → columns < 3 * n → roomFor n columns marks ≡ false
+unfolding roomFor
+no-columns n columns marks h = rw (lt-leb (3 * n) columns h) refl
+
+pub no-marks : (n columns marks : ℕ) → 3 * n ≤ columns → marks < n → roomFor n columns marks ≡ false
+unfolding roomFor
+no-marks n columns marks h k = rw (le-leb (3 * n) columns h, lt-leb n marks k) refl
+
+pub room : (n columns marks : ℕ) → 3 * n ≤ columns → n ≤ marks → roomFor n columns marks ≡ true
+unfolding roomFor
+room n columns marks h k = rw (le-leb (3 * n) columns h, le-leb n marks k) refl
+
 either : {A : Type 0} (b : Bool) (x y : List A) (m : ℕ) → length x ≡ m → length y ≡ m → length (cond b x y) ≡ m
 either true x y m p q = p
 either false x y m p q = q
 
 -- The columns with a record stored.
 abbrev pub stored : ℕ → ℕ → FixRecord → List Float → List Float
-stored n i f columns = set (set (set columns i (f .at .x)) (n + i) (f .at .y)) (2 * n + i) (f .time)
+stored n i f columns = set (set (set columns i (f .at .x)) (n + i) (f .at .y)) (2 * n + i) (readTime (f .mark) (f .time))
 
 pub length-put : (n i : ℕ) (f : FixRecord) (columns : List Float) → length (putAt n i f columns) ≡ length columns
 unfolding putAt

@@ -2,13 +2,15 @@
 use Prim.Native.Nat.{ℕ, _*_}
 use mathlib.Core.Bool.{Bool, _&&_, cond}
 use mathlib.Core.List.{List, _++_, map}
-use lib.Dec.{ltb, leb}
+use lib.Dec.{leb}
 use lib.ListN.{length}
 use lib.Ieee.{Float}
 use Rattle.lists.specs.Lists.{overlay}
 use Rattle.stay.specs.Trace.{Fix, timeOf}
 use Rattle.tracks.specs.declared.config.Config.{Config}
+use Rattle.tracks.specs.Columns.{readTime}
 use Rattle.fit.specs.Fit.{Outcome, fit}
+use Rattle.infostop.specs.Ends.{keepsWork}
 use Rattle.records.specs.declared.FixRecord.{FixRecord}
 
 -- The fix that a record stands for: it has a time where the mark is 1.
@@ -22,28 +24,32 @@ xsOf fs = map (λ (f : FixRecord). f .at .x) fs
 abbrev pub ysOf : List FixRecord → List Float
 ysOf fs = map (λ (f : FixRecord). f .at .y) fs
 
+-- The value of a time whose mark is not 1 is not copied: 0.0 stands in its place.
 abbrev pub timesOf : List FixRecord → List Float
-timesOf fs = map (λ (f : FixRecord). f .time) fs
+timesOf fs = map (λ (f : FixRecord). readTime (f .mark) (f .time)) fs
 
 abbrev pub marksOf : List FixRecord → List ℕ
 marksOf fs = map (λ (f : FixRecord). f .mark) fs
-
--- The slice of columns, once the records are taken apart: x, y and time of each, column by column, stand in front. One that is too short stays.
-unfoldable pub taken : List FixRecord → List Float → List Float
-unfolding overlay
-taken fs columns = cond (ltb (length columns) (3 * length fs)) columns (overlay (xsOf fs ++ (ysOf fs ++ timesOf fs)) columns)
-
--- The slice of marks.
-unfoldable pub marked : List FixRecord → List ℕ → List ℕ
-unfolding overlay
-marked fs marks = cond (ltb (length marks) (length fs)) marks (overlay (marksOf fs) marks)
 
 -- Whether both slices, of these lengths, have room for n records.
 unfoldable pub roomFor : ℕ → ℕ → ℕ → Bool
 roomFor n columns marks = leb (3 * n) columns && leb n marks
 
--- The fit of the records. Columns or marks that are too short count as a work slice that is: 10 in document 01's order. `labels`, `columns`,
--- `marks`, `floats` and `words` are the lengths of the lent slices.
+-- Columns or marks that are too short count as a work slice that is: one of floats that has no number.
+unfoldable pub workFloats : ℕ → ℕ → ℕ → ℕ → ℕ
+workFloats n columns marks floats = cond (roomFor n columns marks) floats 0
+
+-- The fit of the records: 10 in document 01's order where columns or marks are too short. `labels`, `columns`, `marks`, `floats` and `words` are
+-- the lengths of the lent slices.
 unfoldable pub fitRecords : Config → List FixRecord → List ℕ → ℕ → ℕ → ℕ → ℕ → ℕ → ℕ → Outcome
-unfolding roomFor fit
-fitRecords c fs lens labels cap columns marks floats words = fit c (xsOf fs) (ysOf fs) (timesOf fs) (marksOf fs) lens labels cap (cond (roomFor (length fs) columns marks) floats 0) words
+unfolding workFloats fit
+fitRecords c fs lens labels cap columns marks floats words = fit c (xsOf fs) (ysOf fs) (timesOf fs) (marksOf fs) lens labels cap (workFloats (length fs) columns marks floats) words
+
+-- How the slice of columns ends, o being the outcome: a refusal below 18 leaves it as it was; else x, y and time of each record, column by column,
+-- stand in front.
+unfoldable pub taken : Outcome → List FixRecord → List Float → List Float
+taken o fs columns = cond (keepsWork o) columns (overlay (xsOf fs ++ (ysOf fs ++ timesOf fs)) columns)
+
+-- The slice of marks likewise.
+unfoldable pub marked : Outcome → List FixRecord → List ℕ → List ℕ
+marked o fs marks = cond (keepsWork o) marks (overlay (marksOf fs) marks)

@@ -1,4 +1,7 @@
-// The fit over one lent slice of fix records. The records are taken apart into columns and marks, two lent slices; these go to the fit over slices.
+// The fit over one lent slice of fix records. The records are judged first; those that pass all checks of tracks are taken apart into columns and
+// marks, two lent slices, which go to the fit over slices.
+use crate::judge::Packed;
+use crate::judge::Verdict;
 use distance::Point;
 use infostop::answer::Answer;
 use infostop::answer::Fit;
@@ -10,18 +13,21 @@ ghost use mathlib.Core.List.{List, map};
 ghost use lib.ListN.{length};
 ghost use Rattle.tracks.specs.Tracks.{traces};
 ghost use Rattle.infostop.specs.declared.answer.Answer.the-variants as answer;
-ghost use Rattle.infostop.specs.Ends.{Ended, WorkEnds, HoldsDemand3};
+ghost use Rattle.infostop.specs.Ends.{Promised};
 ghost use Rattle.records.specs.Records.{fixOf, taken, marked, fitRecords};
-ghost use Rattle.records.specs.Steps.{putAt, setMark, markAt, Holds, shortRefusal, Promised};
+ghost use Rattle.records.specs.Judge.{started, run, packed};
+ghost use Rattle.records.specs.Steps.{putAt, setMark, markAt, steps, Ready};
 
-// A fix: a point, and a time where the mark is 1. The time beside a mark 0 is not looked at.
+pub mod judge;
+
+// A fix: a point, and a time where the mark is 1. The time beside another mark is not looked at.
 pub struct FixRecord {
     pub at: Point,
     pub time: f64,
     pub mark: u8,
 }
 
-// Record i of n goes into its three columns. A slice that is too short stays.
+// Record i of n goes into its three columns. A slice that is too short stays, and n = 0 writes nothing.
 fn put_columns(columns: &mut [f64], n: usize, i: usize, f: FixRecord)
     ensures { λ _. ⌜ now (columns .exit) ≡ putAt n i f (now (columns .entry)) ⌝ }
 {
@@ -34,7 +40,7 @@ fn put_columns(columns: &mut [f64], n: usize, i: usize, f: FixRecord)
     let p = f.at;
     columns[i] = p.x;
     columns[n + i] = p.y;
-    columns[2 * n + i] = f.time;
+    columns[2 * n + i] = judge::read_time(f.mark, f.time);
 }
 
 fn put_mark(marks: &mut [u8], n: usize, i: usize, mark: u8)
@@ -57,54 +63,45 @@ fn put(columns: &mut [f64], marks: &mut [u8], n: usize, i: usize, f: FixRecord)
     put_mark(marks, n, i, f.mark);
 }
 
-// All records.
-fn take_apart(fixes: &[FixRecord], columns: &mut [f64], marks: &mut [u8])
-    ensures { λ _. ⌜ (now (columns .exit) ≡ taken (now (fixes .entry)) (now (columns .entry))) × (now (marks .exit) ≡ marked (now (fixes .entry)) (now (marks .entry))) ⌝ }
+// The machine over all records.
+fn judge_records(fixes: &[FixRecord], lens: &[u32]) -> Packed
+    ensures { λ r. ⌜ r ≡ packed (run (now (lens .entry)) (started (now (lens .entry))) (now (fixes .entry))) ⌝ }
 {
     let n = fixes.len();
+    let mut p = judge::begin_all(lens);
     let mut i: usize = 0;
     while i < n {
+        p = judge::take_one(p, fixes[i], lens);
+        i += 1;
+    }
+    p
+}
+
+// All records into the columns and the marks, where n is their number; with n = 0 nothing is written.
+fn take_apart(fixes: &[FixRecord], n: usize, columns: &mut [f64], marks: &mut [u8])
+    ensures { λ _. ⌜ (now (columns .exit) ≡ steps (putAt n) (now (fixes .entry)) (now (columns .entry)) (length (now (fixes .entry)))) × (now (marks .exit) ≡ steps (markAt n) (now (fixes .entry)) (now (marks .entry)) (length (now (fixes .entry)))) ⌝ }
+{
+    let count = fixes.len();
+    let mut i: usize = 0;
+    while i < count {
         put(columns, marks, n, i, fixes[i]);
         i += 1;
     }
 }
 
-// The refusal of n records where the columns or the marks are too short: 10, after 1 to 9.
-fn refuse_short(model: Infostop, n: usize, lens: &[u32], labels: usize, places: usize) -> Fit
-    ensures { λ r. ⌜ r ≡ record { answer = answer.Refused (shortRefusal (model .config) n (now (lens .entry)) labels places); model = model } ⌝ }
+fn refuse(model: Infostop, e: Refusal) -> Fit
+    ensures { λ r. ⌜ r ≡ record { answer = answer.Refused e; model = model } ⌝ }
 {
-    let config = model.config;
-    let a = tracks::config::check_config(config);
-    if let Checked::Refused(e) = a {
-        return Fit {
-            answer: Answer::Refused(e),
-            model: model,
-        };
-    }
-    let b = tracks::slices::check_lengths(lens, n, n, n, n, labels);
-    if let Checked::Refused(e) = b {
-        return Fit {
-            answer: Answer::Refused(e),
-            model: model,
-        };
-    }
-    let c = tracks::slices::check_counts(lens.len(), n, places);
-    if let Checked::Refused(e) = c {
-        return Fit {
-            answer: Answer::Refused(e),
-            model: model,
-        };
-    }
     Fit {
-        answer: Answer::Refused(Refusal::Work),
+        answer: Answer::Refused(e),
         model: model,
     }
 }
 
-// The fit of n records that are taken apart already.
+// The fit of records that are judged and, where they pass, taken apart.
 fn fit_taken(
     model: Infostop,
-    n: usize,
+    v: Verdict,
     lens: &[u32],
     labels: &mut [i32],
     places: usize,
@@ -114,13 +111,21 @@ fn fit_taken(
     words: &mut [i32],
 ) -> Fit
     ensures { λ r. ⌜ (now (columns .exit) ≡ now (columns .entry)) × (now (marks .exit) ≡ now (marks .entry))
-        × ((fs : List FixRecord) → length fs ≡ n → Holds fs (now (columns .entry)) (now (marks .entry)) → Promised model fs (now (lens .entry)) (now (labels .entry)) places (length (now (columns .entry))) (length (now (marks .entry))) (now (floats .entry)) (now (words .entry)) r (now (labels .exit)) (now (floats .exit)) (now (words .exit))) ⌝ }
+        × ((fs : List FixRecord) → Ready (model .config) fs (now (lens .entry)) (length (now (labels .entry))) places (length (now (floats .entry))) (length (now (words .entry))) v (now (columns .entry)) (now (marks .entry))
+        → Promised model (now (labels .entry)) (now (floats .entry)) (now (words .entry))
+        (fitRecords (model .config) fs (now (lens .entry)) (length (now (labels .entry))) places (length (now (columns .entry))) (length (now (marks .entry))) (length (now (floats .entry))) (length (now (words .entry))))
+        (traces (now (lens .entry)) (map fixOf fs)) r (now (labels .exit)) (now (floats .exit)) (now (words .exit))) ⌝ }
 {
+    let checked = v.checked;
+    if let Checked::Refused(e) = checked {
+        return refuse(model, e);
+    }
+    let n = v.fixes;
     if columns.len() / 3 < n {
-        return refuse_short(model, n, lens, labels.len(), places);
+        return refuse(model, Refusal::Work);
     }
     if marks.len() < n {
-        return refuse_short(model, n, lens, labels.len(), places);
+        return refuse(model, Refusal::Work);
     }
     let y = 2 * n;
     let end = 3 * n;
@@ -138,7 +143,7 @@ fn fit_taken(
 }
 
 // The fit of the records. Beside the slices of `fit_predict_many` it is lent `columns`, for 3 × records numbers, and `marks`, for one of each record.
-// One of the two that is shorter stays as it was, and the answer is 10.
+// One of the two that is shorter is 10. A refusal below 18 leaves all as it was.
 pub fn fit_records(
     model: Infostop,
     fixes: &[FixRecord],
@@ -150,15 +155,28 @@ pub fn fit_records(
     floats: &mut [f64],
     words: &mut [i32],
 ) -> Fit
-    ensures { λ r. ⌜ (now (columns .exit) ≡ taken (now (fixes .entry)) (now (columns .entry))) × (now (marks .exit) ≡ marked (now (fixes .entry)) (now (marks .entry)))
-        × (Ended model (now (labels .entry)) (fitRecords (model .config) (now (fixes .entry)) (now (lens .entry)) (length (now (labels .entry))) places (length (now (columns .entry))) (length (now (marks .entry))) (length (now (floats .entry))) (length (now (words .entry)))) r (now (labels .exit)))
-        × (WorkEnds (fitRecords (model .config) (now (fixes .entry)) (now (lens .entry)) (length (now (labels .entry))) places (length (now (columns .entry))) (length (now (marks .entry))) (length (now (floats .entry))) (length (now (words .entry)))) (now (floats .entry)) (now (words .entry)) (now (floats .exit)) (now (words .exit)))
-        × (HoldsDemand3 (model .config) (traces (now (lens .entry)) (map fixOf (now (fixes .entry)))) r (now (labels .exit))) ⌝ }
+    ensures { λ r. ⌜ (let o = fitRecords (model .config) (now (fixes .entry)) (now (lens .entry)) (length (now (labels .entry))) places (length (now (columns .entry))) (length (now (marks .entry))) (length (now (floats .entry))) (length (now (words .entry))) in
+        Promised model (now (labels .entry)) (now (floats .entry)) (now (words .entry)) o (traces (now (lens .entry)) (map fixOf (now (fixes .entry)))) r (now (labels .exit)) (now (floats .exit)) (now (words .exit))
+        × (now (columns .exit) ≡ taken o (now (fixes .entry)) (now (columns .entry))) × (now (marks .exit) ≡ marked o (now (fixes .entry)) (now (marks .entry)))) ⌝ }
 {
-    take_apart(fixes, columns, marks);
+    let p = judge_records(fixes, lens);
+    let v = judge::decide(
+        model,
+        p,
+        fixes.len(),
+        lens,
+        labels.len(),
+        places,
+        columns.len(),
+        marks.len(),
+        floats.len(),
+        words.len(),
+    );
+    let n = judge::to_take(v);
+    take_apart(fixes, n, columns, marks);
     fit_taken(
         model,
-        fixes.len(),
+        v,
         lens,
         labels,
         places,

@@ -1,27 +1,40 @@
 -- `records::fit_taken` meets its contract.
 use mathlib.Core.Path.{refl}
-use lib.ListN.{length}
 use Rattle.records.proofs.Steps.{too-short, long-enough}
-use Rattle.records.proofs.Fits.{no-columns, no-marks, promised-short, promised-long}
+use Rattle.records.proofs.Fits.{promised-refused, never-short, never-few, promised-taken}
 use borrow.Author.Needs.{needs}
 use Rattle.records.proofs.fit_taken.Statement.{statement}
 use Rattle.records.proofs.fit_taken.Tie as tie
 
-refuse-short-requires : tie.Need-refuse-short-requires
-refuse-short-requires c κs = search needs
+enum-known-checked : tie.Need-enum-known-checked
+enum-known-checked c = search needs
+
+refuse-requires : tie.Need-refuse-requires
+refuse-requires c κs = search needs
 
 returns : tie.Need-returns
 returns c =
-    let a = c .before .before .before .before .before .before .args in
-    (refl, refl, λ fs is h. promised-short (a .model) fs (a .lens .now) (a .labels .now) (a .places) (length (a .columns .now)) (length (a .marks .now)) (a .floats .now) (a .words .now) (a .n) is (no-columns (a .n) (length (a .columns .now)) (length (a .marks .now)) (too-short _ _ (c .before .if1 .taken))) _ (c .refuse-short .ensures))
+    let a = c .before .before .before .before .before .before .before .before .args in
+    (refl, refl, λ fs w. promised-refused (a .model) fs (a .lens .now) (a .labels .now) (a .places) (a .columns .now) (a .marks .now) (a .floats .now) (a .words .now) (a .v) w _ (c .before .before .checked .given .1) _ (c .refuse .ensures))
 
-refuse-short-requires-2 : tie.Need-refuse-short-requires-2
-refuse-short-requires-2 c κs = search needs
+enum-told : tie.Need-enum-told
+enum-told c = search needs
+
+refuse-requires-2 : tie.Need-refuse-requires-2
+refuse-requires-2 c κs = search needs
 
 returns-2 : tie.Need-returns-2
 returns-2 c =
-    let a = c .before .before .before .before .before .before .before .args in
-    (refl, refl, λ fs is h. promised-short (a .model) fs (a .lens .now) (a .labels .now) (a .places) (length (a .columns .now)) (length (a .marks .now)) (a .floats .now) (a .words .now) (a .n) is (no-marks (a .n) (length (a .columns .now)) (length (a .marks .now)) (long-enough _ _ (c .before .before .if1 .left)) (c .before .if2 .taken)) _ (c .refuse-short2 .ensures))
+    let a = c .before .before .before .before .before .before .before .before .args in
+    (refl, refl, λ fs w. never-short (a .model) fs (a .lens .now) (a .labels .now) (a .places) (a .columns .now) (a .marks .now) (a .floats .now) (a .words .now) (a .v) w (c .before .before .enum-told .given .1) (too-short _ _ (c .before .if1 .taken)))
+
+refuse-requires-3 : tie.Need-refuse-requires-3
+refuse-requires-3 c κs = search needs
+
+returns-3 : tie.Need-returns-3
+returns-3 c =
+    let a = c .before .before .before .before .before .before .before .before .before .args in
+    (refl, refl, λ fs w. never-few (a .model) fs (a .lens .now) (a .labels .now) (a .places) (a .columns .now) (a .marks .now) (a .floats .now) (a .words .now) (a .v) w (c .before .before .before .enum-told .given .1) (c .before .if2 .taken))
 
 mul-y : tie.Need-mul-y
 mul-y c = search needs
@@ -89,19 +102,24 @@ same-length-4 c = search needs
 same-length-5 : tie.Need-same-length-5
 same-length-5 c = search needs
 
-returns-3 : tie.Need-returns-3
-returns-3 c =
-    let a = c .before .before .before .before .before .before .before .before .before .before .before .before .before .before .before .before .before .before .before .before .args in
-    (refl, refl, λ fs is h. promised-long (a .model) fs (a .lens .now) (a .labels .now) (a .places) (a .columns .now) (a .marks .now) (a .floats .now) (a .words .now) (a .n) is (long-enough _ _ (c .before .before .before .before .before .before .before .before .before .before .before .before .before .before .before .if1 .left)) (c .before .before .before .before .before .before .before .before .before .before .before .before .before .before .if2 .left) h _ _ _ _ (c .before .before .before .before .fit-predict-many .ensures .ended) (c .before .before .before .before .fit-predict-many .ensures .work))
+returns-4 : tie.Need-returns-4
+returns-4 c =
+    let d = c .before .before .before .before .before .before .before .before .before .before .before .before .before .before .before .before in
+    let a = d .before .before .before .before .before .before .args in
+    (refl, refl, λ fs w. promised-taken (a .model) fs (a .lens .now) (a .labels .now) (a .places) (a .columns .now) (a .marks .now) (a .floats .now) (a .words .now) (a .v) w (d .enum-told .given .1) _ _ _ _ _ refl (c .before .before .before .before .fit-predict-many .ensures))
 
 pub fit-taken-spec : {M : Type 1} → statement M
 fit-taken-spec =
     tie.close
     (tie.spec
-    refuse-short-requires
+    enum-known-checked
+    refuse-requires
     returns
-    refuse-short-requires-2
+    enum-told
+    refuse-requires-2
     returns-2
+    refuse-requires-3
+    returns-3
     mul-y
     mul-end
     sub-fit-predict-many
@@ -124,4 +142,4 @@ fit-taken-spec =
     same-length-3
     same-length-4
     same-length-5
-    returns-3)
+    returns-4)

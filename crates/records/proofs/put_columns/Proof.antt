@@ -31,6 +31,9 @@ mul-columns-2 c = search needs
 slice-write-columns-2 : tie.Need-slice-write-columns-2
 slice-write-columns-2 c = simp length-set (omega arith)
 
+read-time-requires : tie.Need-read-time-requires
+read-time-requires c κs = search needs
+
 mul-columns-3 : tie.Need-mul-columns-3
 mul-columns-3 c = search needs
 
@@ -48,7 +51,7 @@ same-length c = search needs
 
 returns-3 : tie.Need-returns-3
 unfolding putAt
-returns-3 c = simp (le-ltb _ _ (long-enough _ _ (c .before .before .if1 .left)), lt-leb _ _ (c .before .if2 .left))
+returns-3 c = simp (le-ltb _ _ (long-enough _ _ (c .before .before .before .if1 .left)), lt-leb _ _ (c .before .before .if2 .left), c .read-time .ensures)
 
 pub put-columns-spec : {M : Type 1} → statement M
 put-columns-spec =
@@ -61,6 +64,7 @@ put-columns-spec =
     add-columns
     mul-columns-2
     slice-write-columns-2
+    read-time-requires
     mul-columns-3
     add-columns-2
     mul-columns-4

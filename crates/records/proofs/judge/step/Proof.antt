@@ -1,0 +1,27 @@
+-- `records::judge::step` meets its contract.
+use mathlib.Core.Path.{sym, ap, _∙_}
+use borrow.Author.Tests.{eq-eqb, ne-eqb}
+use Rattle.records.specs.Judge.{stepped}
+use borrow.Author.Needs.{needs}
+use Rattle.records.proofs.judge.step.Statement.{statement}
+use Rattle.records.proofs.judge.step.Tie as tie
+
+pass-requires : tie.Need-pass-requires
+pass-requires c κs = search needs
+
+end-requires : tie.Need-end-requires
+end-requires c κs = search needs
+
+next-requires : tie.Need-next-requires
+next-requires c κs = search needs
+
+returns : tie.Need-returns
+unfolding stepped
+returns c = rw (← c .before .before .before .before .pass .ensures, eq-eqb _ 0 (c .before .before .if1 .taken), ← c .before .end .ensures) (c .next .ensures)
+
+returns-2 : tie.Need-returns-2
+unfolding stepped
+returns-2 c = rw (← c .before .before .pass .ensures, ne-eqb _ 0 (c .if1 .left))
+
+pub step-spec : {M : Type 1} → statement M
+step-spec = tie.close (tie.spec pass-requires end-requires next-requires returns returns-2)

@@ -1,0 +1,21 @@
+-- `records::judge::work_floats` meets its contract.
+use Rattle.records.specs.Records.{workFloats}
+use Rattle.records.proofs.Steps.{too-short, long-enough, no-columns, no-marks, room}
+use borrow.Author.Needs.{needs}
+use Rattle.records.proofs.judge.work_floats.Statement.{statement}
+use Rattle.records.proofs.judge.work_floats.Tie as tie
+
+returns : tie.Need-returns
+unfolding workFloats
+returns c = rw (no-columns (c .before .args .n) (c .before .args .columns) (c .before .args .marks) (too-short _ _ (c .if1 .taken)))
+
+returns-2 : tie.Need-returns-2
+unfolding workFloats
+returns-2 c = rw (no-marks (c .before .before .args .n) (c .before .before .args .columns) (c .before .before .args .marks) (long-enough _ _ (c .before .if1 .left)) (c .if2 .taken))
+
+returns-3 : tie.Need-returns-3
+unfolding workFloats
+returns-3 c = rw (room (c .before .before .args .n) (c .before .before .args .columns) (c .before .before .args .marks) (long-enough _ _ (c .before .if1 .left)) (c .if2 .left))
+
+pub work-floats-spec : {M : Type 1} → statement M
+work-floats-spec = tie.close (tie.spec returns returns-2 returns-3)

@@ -1,0 +1,418 @@
+// The checks of records before anything is written: a machine that takes them one by one, and the verdict at the end, in document 01's order.
+use crate::FixRecord;
+use infostop::model::Infostop;
+use tracks::refusal::Checked;
+use tracks::refusal::Refusal;
+ghost use mathlib.Core.Path.{_≡_};
+ghost use mathlib.Core.Bool.{_&&_, not};
+ghost use Prim.Native.Nat.{_-_};
+ghost use lib.ListN.{length};
+ghost use Rattle.tracks.specs.Checks.{refuseIf, firstOf};
+ghost use Rattle.tracks.specs.Columns.{readTime};
+ghost use Rattle.records.specs.Judge.{noTimes as Judge·noTimes, withTime, timesChecked, begun, passed, ended, next as Judge·next, started, stepped, contents as Judge·contents, numberIn, traceIn, checkedOf, packed, unpacked, checksFrom, verdictBy};
+ghost use Rattle.records.specs.Records.{workFloats};
+
+// The times of the open trace so far: whether all are there, none is, and each is at most the next; the last mark and time.
+pub struct Times {
+    pub timed: bool,
+    pub untimed: bool,
+    pub ordered: bool,
+    pub mark: u8,
+    pub time: f64,
+}
+
+// What the records so far say. marks: each mark is 0 or 1. first: the first refusal of 11 to 15. far: the first of 16. trace: the open
+// trace. left: how many of its fixes are still to come.
+pub struct Judge {
+    pub marks: bool,
+    pub first: Checked,
+    pub far: Checked,
+    pub trace: usize,
+    pub left: usize,
+    pub times: Times,
+}
+
+// The same in plain numbers, for the loop over the records: a refusal by its number and its trace, 0 where there is none.
+pub struct Packed {
+    pub marks: bool,
+    pub first: u32,
+    pub first_trace: usize,
+    pub far: u32,
+    pub far_trace: usize,
+    pub trace: usize,
+    pub left: usize,
+    pub times: Times,
+}
+
+// What is known before anything is written: the first refusal of 1 to 17, and how many records are to be taken apart, none where there is one.
+pub struct Verdict {
+    pub checked: Checked,
+    pub fixes: usize,
+}
+
+// The time beside a mark, 0.0 where there is none.
+pub fn read_time(mark: u8, time: f64) -> f64
+    ensures { λ r. ⌜ r ≡ readTime mark time ⌝ }
+{
+    if mark == 1 {
+        return time;
+    }
+    0.0
+}
+
+fn refuse_if(b: bool, e: Refusal) -> Checked
+    ensures { λ r. ⌜ r ≡ refuseIf b e ⌝ }
+{
+    if b {
+        return Checked::Refused(e);
+    }
+    Checked::Accepted
+}
+
+// The first of two, and where that accepts, the second.
+fn first_of(a: Checked, b: Checked) -> Checked
+    ensures { λ r. ⌜ r ≡ firstOf a b ⌝ }
+{
+    if tracks::refusal::is_refused(a) {
+        return a;
+    }
+    b
+}
+
+fn both(a: bool, b: bool) -> bool
+    ensures { λ r. ⌜ r ≡ a && b ⌝ }
+{
+    if a {
+        return b;
+    }
+    false
+}
+
+// One less, down to 0.
+fn less(n: usize) -> usize
+    ensures { λ r. ⌜ r ≡ n - 1 ⌝ }
+{
+    if n == 0 {
+        return 0;
+    }
+    n - 1
+}
+
+fn no_times() -> Times
+    ensures { λ r. ⌜ r ≡ Judge·noTimes ⌝ }
+{
+    Times {
+        timed: true,
+        untimed: true,
+        ordered: true,
+        mark: 0,
+        time: 0.0,
+    }
+}
+
+// The next fix of the open trace.
+fn with_time(t: Times, f: FixRecord) -> Times
+    ensures { λ r. ⌜ r ≡ withTime t f ⌝ }
+{
+    Times {
+        timed: both(t.timed, f.mark == 1),
+        untimed: both(t.untimed, f.mark != 1),
+        ordered: both(
+            t.ordered,
+            !tracks::fix::above(t.mark, t.time, f.mark, f.time),
+        ),
+        mark: f.mark,
+        time: read_time(f.mark, f.time),
+    }
+}
+
+// 14 and 15 of trace k.
+fn times_checked(k: usize, t: Times) -> Checked
+    ensures { λ r. ⌜ r ≡ timesChecked k t ⌝ }
+{
+    first_of(
+        refuse_if(both(!t.timed, !t.untimed), Refusal::PartlyTimed(k)),
+        refuse_if(!t.ordered, Refusal::TimeOrder(k)),
+    )
+}
+
+// Trace k of n fixes is opened: 11.
+fn begin(s: Judge, k: usize, n: usize) -> Judge
+    ensures { λ r. ⌜ r ≡ begun k n s ⌝ }
+{
+    let first = s.first;
+    let far = s.far;
+    Judge {
+        marks: s.marks,
+        first: first_of(first, refuse_if(n == 0, Refusal::EmptyTrace(k))),
+        far: far,
+        trace: k,
+        left: n,
+        times: no_times(),
+    }
+}
+
+// A fix of the open trace: 12, 13, and 16 apart.
+fn pass(s: Judge, f: FixRecord) -> Judge
+    ensures { λ r. ⌜ r ≡ passed f s ⌝ }
+{
+    let first = s.first;
+    let far = s.far;
+    let times = s.times;
+    let p = f.at;
+    let k = s.trace;
+    Judge {
+        marks: both(s.marks, f.mark <= 1),
+        first: first_of(first, tracks::fix::check_fix(k, p, f.mark, f.time)),
+        far: first_of(
+            far,
+            refuse_if(!distance::in_limit(p), Refusal::CoordinateSize(k)),
+        ),
+        trace: k,
+        left: less(s.left),
+        times: with_time(times, f),
+    }
+}
+
+// The open trace is at its end: 14, 15.
+fn end(s: Judge) -> Judge
+    ensures { λ r. ⌜ r ≡ ended s ⌝ }
+{
+    let first = s.first;
+    let far = s.far;
+    let times = s.times;
+    Judge {
+        marks: s.marks,
+        first: first_of(first, times_checked(s.trace, times)),
+        far: far,
+        trace: s.trace,
+        left: s.left,
+        times: times,
+    }
+}
+
+// The trace after the open one, where there is one.
+fn next(s: Judge, lens: &[u32]) -> Judge
+    ensures { λ r. ⌜ r ≡ Judge·next (now (lens .entry)) s ⌝ }
+{
+    let k = s.trace;
+    if k < lens.len() {
+        let j = k + 1;
+        if j < lens.len() {
+            return begin(s, j, lens[j] as usize);
+        }
+    }
+    s
+}
+
+// Before the first record.
+fn start(lens: &[u32]) -> Judge
+    ensures { λ r. ⌜ r ≡ started (now (lens .entry)) ⌝ }
+{
+    let s = Judge {
+        marks: true,
+        first: Checked::Accepted,
+        far: Checked::Accepted,
+        trace: 0,
+        left: 0,
+        times: no_times(),
+    };
+    if lens.len() == 0 {
+        return begin(s, 0, 0);
+    }
+    begin(s, 0, lens[0] as usize)
+}
+
+// One record.
+fn step(s: Judge, f: FixRecord, lens: &[u32]) -> Judge
+    ensures { λ r. ⌜ r ≡ stepped (now (lens .entry)) s f ⌝ }
+{
+    let t = pass(s, f);
+    if t.left == 0 {
+        return next(end(t), lens);
+    }
+    t
+}
+
+// The number of a refusal, 0 of none.
+fn number_in(c: Checked) -> u32
+    ensures { λ r. ⌜ r ≡ numberIn c ⌝ }
+{
+    match c {
+        Checked::Accepted => 0,
+        Checked::Refused(e) => tracks::refusal::number(e),
+    }
+}
+
+fn trace_in(c: Checked) -> usize
+    ensures { λ r. ⌜ r ≡ traceIn c ⌝ }
+{
+    match c {
+        Checked::Accepted => 0,
+        Checked::Refused(e) => tracks::refusal::trace(e),
+    }
+}
+
+// The refusal of a trace from its number.
+fn checked_of(number: u32, trace: usize) -> Checked
+    ensures { λ r. ⌜ r ≡ checkedOf number trace ⌝ }
+{
+    match number {
+        11 => Checked::Refused(Refusal::EmptyTrace(trace)),
+        12 => Checked::Refused(Refusal::Coordinate(trace)),
+        13 => Checked::Refused(Refusal::Timestamp(trace)),
+        14 => Checked::Refused(Refusal::PartlyTimed(trace)),
+        15 => Checked::Refused(Refusal::TimeOrder(trace)),
+        16 => Checked::Refused(Refusal::CoordinateSize(trace)),
+        _ => Checked::Accepted,
+    }
+}
+
+fn pack(s: Judge) -> Packed
+    ensures { λ r. ⌜ r ≡ packed s ⌝ }
+{
+    let first = s.first;
+    let far = s.far;
+    let times = s.times;
+    Packed {
+        marks: s.marks,
+        first: number_in(first),
+        first_trace: trace_in(first),
+        far: number_in(far),
+        far_trace: trace_in(far),
+        trace: s.trace,
+        left: s.left,
+        times: times,
+    }
+}
+
+fn unpack(p: Packed) -> Judge
+    ensures { λ r. ⌜ r ≡ unpacked p ⌝ }
+{
+    let times = p.times;
+    Judge {
+        marks: p.marks,
+        first: checked_of(p.first, p.first_trace),
+        far: checked_of(p.far, p.far_trace),
+        trace: p.trace,
+        left: p.left,
+        times: times,
+    }
+}
+
+// Before the first record, in plain numbers.
+pub fn begin_all(lens: &[u32]) -> Packed
+    ensures { λ r. ⌜ r ≡ packed (started (now (lens .entry))) ⌝ }
+{
+    pack(start(lens))
+}
+
+// One record.
+pub fn take_one(p: Packed, f: FixRecord, lens: &[u32]) -> Packed
+    ensures { λ r. ⌜ r ≡ packed (stepped (now (lens .entry)) (unpacked p) f) ⌝ }
+{
+    pack(step(unpack(p), f, lens))
+}
+
+// 17, then 11 to 15, then 16.
+fn contents(s: Judge) -> Checked
+    ensures { λ r. ⌜ r ≡ Judge·contents s ⌝ }
+{
+    let first = s.first;
+    let far = s.far;
+    first_of(refuse_if(!s.marks, Refusal::TimeMark), first_of(first, far))
+}
+
+// How many numbers the work slice of floats has for n records: none where columns or marks, of these lengths, are too short.
+fn work_floats(n: usize, columns: usize, marks: usize, floats: usize) -> usize
+    ensures { λ r. ⌜ r ≡ workFloats n columns marks floats ⌝ }
+{
+    if columns / 3 < n {
+        return 0;
+    }
+    if marks < n {
+        return 0;
+    }
+    floats
+}
+
+// 1 to 10 of n records and the lent slices, by their lengths; then 11 to 17, by what the machine says of the records.
+fn checks(
+    model: Infostop,
+    s: Judge,
+    n: usize,
+    lens: &[u32],
+    labels: usize,
+    places: usize,
+    columns: usize,
+    marks: usize,
+    floats: usize,
+    words: usize,
+) -> Checked
+    ensures { λ r. ⌜ r ≡ checksFrom (model .config) s n (now (lens .entry)) labels places columns marks floats words ⌝ }
+{
+    let config = model.config;
+    let a = tracks::config::check_config(config);
+    if tracks::refusal::is_refused(a) {
+        return a;
+    }
+    let b = tracks::slices::check_lengths(lens, n, n, n, n, labels);
+    if tracks::refusal::is_refused(b) {
+        return b;
+    }
+    let c = tracks::slices::check_counts(lens.len(), n, places);
+    if tracks::refusal::is_refused(c) {
+        return c;
+    }
+    let d = tracks::slices::check_work(n, places, work_floats(n, columns, marks, floats), words);
+    if tracks::refusal::is_refused(d) {
+        return d;
+    }
+    contents(s)
+}
+
+pub fn decide(
+    model: Infostop,
+    p: Packed,
+    n: usize,
+    lens: &[u32],
+    labels: usize,
+    places: usize,
+    columns: usize,
+    marks: usize,
+    floats: usize,
+    words: usize,
+) -> Verdict
+    ensures { λ r. ⌜ r ≡ verdictBy (checksFrom (model .config) (unpacked p) n (now (lens .entry)) labels places columns marks floats words) n ⌝ }
+{
+    let s = unpack(p);
+    let checked = checks(
+        model,
+        s,
+        n,
+        lens,
+        labels,
+        places,
+        columns,
+        marks,
+        floats,
+        words,
+    );
+    if tracks::refusal::is_refused(checked) {
+        return Verdict {
+            checked: checked,
+            fixes: 0,
+        };
+    }
+    Verdict {
+        checked: checked,
+        fixes: n,
+    }
+}
+
+// How many records are to be taken apart.
+pub fn to_take(v: Verdict) -> usize
+    ensures { λ r. ⌜ r ≡ v .fixes ⌝ }
+{
+    v.fixes
+}
