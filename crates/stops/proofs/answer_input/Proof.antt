@@ -1,7 +1,6 @@
 -- `stops::answer_input` meets its contract.
 use Rattle.input.specs.Calls.{heard}
-use Rattle.reply.proofs.Columns.{writes-as}
-use Rattle.stops.proofs.Heard.{textOf, heard-text, heard-answer}
+use Rattle.stops.proofs.Heard.{textOf, heard-text, heard-answered}
 use borrow.Author.Needs.{needs}
 use Rattle.stops.proofs.answer_input.Statement.{statement}
 use Rattle.stops.proofs.answer_input.Tie as tie
@@ -46,7 +45,7 @@ same-length : tie.Need-same-length
 same-length c = search needs
 
 returns : tie.Need-returns
-returns c = let u = c .before .before .before .before .before .before .before .before .before .before .before .before .before .before .read-input .ensures in (u .0, writes-as (heard-answer (heard (u .0))) (c .before .before .answer .ensures _ (heard-text (heard (u .0)) _ _ _ _ _ _ (u .1))))
+returns c = let u = c .before .before .before .before .before .before .before .before .before .before .before .before .before .before .read-input .ensures in let a = c .before .before .answer in heard-answered (u .0) _ _ _ (a .ensures _ (heard-text (heard (u .0)) _ _ _ _ _ _ (u .1))) (c .before .before .before .before .before .before .before .before .before .before .before .before .before .before .before .before .before .before .before .before .before .pre) (a .kept .1 .1 .1 .1 .1 .1 .0)
 
 pub answer-input-spec : {M : Type 1} → statement M
 answer-input-spec =

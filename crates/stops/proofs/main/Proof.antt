@@ -1,8 +1,7 @@
--- `stops::main` stays within its slices, and prints the answer to what it heard.
-use Prim.Native.Nat.{ℕ}
-use native.Mathlib.Omega.{arith}
-use lib.ListN.{length-replicate}
-use Rattle.print.proofs.Sizes.{within}
+-- `stops::main` hands the answer to what it heard, and nothing else, to `write_answer`.
+use mathlib.Core.Path.{sym, subst}
+use Rattle.infostop.proofs.Slices.{lent-first}
+use Rattle.stops.specs.Answer.{Answer}
 use borrow.Author.Needs.{needs}
 use Rattle.stops.proofs.main.Statement.{statement}
 use Rattle.stops.proofs.main.Tie as tie
@@ -20,10 +19,10 @@ part-write-answer-start : tie.Need-part-write-answer-start
 part-write-answer-start c = search needs
 
 part-write-answer-end : tie.Need-part-write-answer-end
-part-write-answer-end c = omega (arith, within _ _ _ _ (c .before .before .answer-input .ensures .1), c .before .before .answer-input .kept .0, length-replicate {A = ℕ} 49152 0)
+part-write-answer-end c = search needs
 
 write-answer-requires : tie.Need-write-answer-requires
-write-answer-requires c κs = search needs
+write-answer-requires c κs = let a = c .before .before .before .answer-input in subst Answer (sym (lent-first (a .result) _)) (a .ensures .first)
 
 returns : tie.Need-returns
 returns c = search needs
