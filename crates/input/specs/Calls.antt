@@ -46,6 +46,10 @@ pub record Taken (n : ℤ) (buf : List ℕ) (m : Machine) (p : Piece) (m' : Mach
   pub read : m' ≡ run m (given n buf)
   pub next : p .next ≡ nextOf n
 
+-- The same of a call as a whole.
+abbrev pub Took : Call → Machine → Piece → Machine → Type 0
+Took g m p m' = Taken (g .count) (g .buffer) m p m'
+
 -- ---- all calls
 
 -- What they told of the input together: its text, or that a call failed before the end.

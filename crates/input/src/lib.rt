@@ -10,7 +10,7 @@ ghost use mathlib.Core.List.{List};
 ghost use Rattle.tracks.specs.declared.refusal.Refusal.the-variants.{Text};
 ghost use Rattle.text.specs.declared.Parsed.the-variants.{Refused};
 ghost use Rattle.text.specs.Pieces.{holding};
-ghost use Rattle.input.specs.Calls.{Call, nextOf, goesOn, Taken, Told, finishedAs, heard, ReadFrom};
+ghost use Rattle.input.specs.Calls.{Call, nextOf, goesOn, Taken, Took, Told, finishedAs, heard, ReadFrom};
 
 // What a call of `read` told: there may be more, the input has ended, or the call has failed.
 pub enum Next {
@@ -68,7 +68,7 @@ fn read_piece(
     marks: &mut [u8],
     lens: &mut [u32],
 ) -> Piece
-    ensures { λ p. ⌜ ((g : Call) × Taken (g .count) (g .buffer) (holding r (now (xs .entry)) (now (ys .entry)) (now (times .entry)) (now (marks .entry)) (now (lens .entry))) p (holding (p .reader) (now (xs .exit)) (now (ys .exit)) (now (times .exit)) (now (marks .exit)) (now (lens .exit)))) ⌝ }
+    ensures { λ p. ⌜ ((g : Call) × Took g (holding r (now (xs .entry)) (now (ys .entry)) (now (times .entry)) (now (marks .entry)) (now (lens .entry))) p (holding (p .reader) (now (xs .exit)) (now (ys .exit)) (now (times .exit)) (now (marks .exit)) (now (lens .exit)))) ⌝ }
 {
     let mut buf = io::large_buffer();
     let got = libc::read(STDIN_FILENO, &mut buf);

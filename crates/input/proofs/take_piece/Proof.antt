@@ -34,8 +34,13 @@ same-length-5 c = search needs
 
 returns : tie.Need-returns
 returns c =
-    let fits = c .before .before .before .before .before .before .before .before .before .before .before .before .before .before .before .before .before .before .before .before .before .before .before .before .before .fits .got in
-    record { read = taken-first _ _ _ _ _ (rw (toZ-ofZ fits) at (c .before .before .before .before .before .before .before .before .before .before .before .before .before .before .before .before .before .before .count .ensures .1)) (c .before .before .before .before .before .before .before .before .before .before .before .feed .ensures); next = rw (toZ-ofZ fits) at (c .next-of .ensures) }
+    let fed = c .before .before .before .before .before .before .before .before .before .before .before in
+    let counted = fed .before .before .before .before .before .before .before in
+    let fits = counted .before .before .before .before .before .before .before .fits .got in
+    record {
+      read = taken-first _ _ _ _ _ (rw (toZ-ofZ fits) at (counted .count .ensures .1)) (fed .feed .ensures);
+      next = rw (toZ-ofZ fits) at (c .next-of .ensures);
+    }
 
 pub take-piece-spec : {M : Type 1} → statement M
 take-piece-spec =

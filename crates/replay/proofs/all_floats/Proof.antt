@@ -31,7 +31,10 @@ bits-of-requires-2 : tie.Need-bits-of-requires-2 Inv-loop μ-loop
 bits-of-requires-2 c κs = search needs
 
 returns : tie.Need-returns Inv-loop μ-loop
-returns c = floats-stop (c .before .before .before .before .before .before .before .args .x) (c .before .before .before .before .before .before .before .args .s .now) (c .before .before .before .before .loop .i) (c .before .before .before .loop-test .taken) (λ e. c .if1 .taken (c .before .bits-of2 .ensures ∙ e ∙ sym (c .before .before .before .before .before .bits-of .ensures))) ∙ c .before .before .before .before .loop .inv
+returns c =
+    let l = c .before .before .before .before in
+    let s = l .before .before .before in
+    floats-stop (s .args .x) (s .args .s .now) (l .loop .i) (c .before .before .before .loop-test .taken) (λ e. c .if1 .taken (c .before .bits-of2 .ensures ∙ e ∙ sym (l .before .bits-of .ensures))) ∙ l .loop .inv
 
 add-i : tie.Need-add-i Inv-loop μ-loop
 add-i c = omega arith
@@ -40,7 +43,10 @@ loop-less : tie.Need-loop-less Inv-loop μ-loop
 loop-less c = omega arith
 
 loop-again : tie.Need-loop-again Inv-loop μ-loop
-loop-again c = floats-on (c .before .before .before .before .before .before .before .args .x) (c .before .before .before .before .before .before .before .args .s .now) (c .before .before .before .before .loop .i) (c .before .before .before .loop-test .taken) (sym (c .before .bits-of2 .ensures) ∙ c .if1 .left ∙ c .before .before .before .before .before .bits-of .ensures) ∙ c .before .before .before .before .loop .inv
+loop-again c =
+    let l = c .before .before .before .before in
+    let s = l .before .before .before in
+    floats-on (s .args .x) (s .args .s .now) (l .loop .i) (c .before .before .before .loop-test .taken) (sym (c .before .bits-of2 .ensures) ∙ c .if1 .left ∙ l .before .bits-of .ensures) ∙ l .loop .inv
 
 returns-2 : tie.Need-returns-2 Inv-loop μ-loop
 returns-2 c = floats-end (c .before .before .before .before .args .x) (c .before .before .before .before .args .s .now) (c .before .loop .i) (c .loop-test .left) ∙ c .before .loop .inv

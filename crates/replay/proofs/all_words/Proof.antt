@@ -3,9 +3,10 @@ use mathlib.Core.Path.{_≡_, refl, sym, _∙_}
 use Prim.Native.Nat.{_-_}
 use native.Mathlib.Omega.{arith}
 use mir.Syntax.{w32}
-use mir.Val.{toZ}
+use mir.Val.{toZ, SFits}
 use mir.Facts.{toZ-ofZ}
-use lib.ListN.{length, drop}
+use lib.IntN.{pos}
+use lib.ListN.{length, drop, getD}
 use borrow.Author.Needs.{needs}
 use borrow.Author.Tests.{not-true, not-false}
 use Rattle.replay.specs.Same.{allWords}
@@ -32,7 +33,14 @@ same-word-requires : tie.Need-same-word-requires Inv-loop μ-loop
 same-word-requires c κs = search needs
 
 returns : tie.Need-returns Inv-loop μ-loop
-returns c = words-stop (c .before .before .before .before .before .args .w) (c .before .before .before .before .before .args .s .now) (c .before .before .before .before .loop .i) (c .before .before .before .loop-test .taken) (rw (toZ-ofZ (c .before .before .before .before .before .fits .w), toZ-ofZ {w = w32} (record { sfits = c .before .before .same-word-arg .given })) at (sym (c .before .same-word .ensures) ∙ not-true _ (c .if1 .taken))) ∙ rw (toZ-ofZ (c .before .before .before .before .before .fits .w)) at (c .before .before .before .before .loop .inv)
+returns c =
+    let l = c .before .before .before .before in
+    let s = l .before in
+    let w = toZ-ofZ (s .fits .w) in
+    let fits : SFits w32 (getD (s .args .s .now) (l .loop .i) (pos 0)) = record { sfits = c .before .before .same-word-arg .given } in
+    let v = toZ-ofZ fits in
+    let t = rw (w, v) at (sym (c .before .same-word .ensures) ∙ not-true _ (c .if1 .taken)) in
+    words-stop (s .args .w) (s .args .s .now) (l .loop .i) (c .before .before .before .loop-test .taken) t ∙ rw w at (l .loop .inv)
 
 add-i : tie.Need-add-i Inv-loop μ-loop
 add-i c = omega arith
@@ -41,7 +49,14 @@ loop-less : tie.Need-loop-less Inv-loop μ-loop
 loop-less c = omega arith
 
 loop-again : tie.Need-loop-again Inv-loop μ-loop
-loop-again c = rw (toZ-ofZ (c .before .before .before .before .before .fits .w)) (words-on (c .before .before .before .before .before .args .w) (c .before .before .before .before .before .args .s .now) (c .before .before .before .before .loop .i) (c .before .before .before .loop-test .taken) (rw (toZ-ofZ (c .before .before .before .before .before .fits .w), toZ-ofZ {w = w32} (record { sfits = c .before .before .same-word-arg .given })) at (sym (c .before .same-word .ensures) ∙ not-false _ (c .if1 .left))) ∙ rw (toZ-ofZ (c .before .before .before .before .before .fits .w)) at (c .before .before .before .before .loop .inv))
+loop-again c =
+    let l = c .before .before .before .before in
+    let s = l .before in
+    let w = toZ-ofZ (s .fits .w) in
+    let fits : SFits w32 (getD (s .args .s .now) (l .loop .i) (pos 0)) = record { sfits = c .before .before .same-word-arg .given } in
+    let v = toZ-ofZ fits in
+    let t = rw (w, v) at (sym (c .before .same-word .ensures) ∙ not-false _ (c .if1 .left)) in
+    rw w (words-on (s .args .w) (s .args .s .now) (l .loop .i) (c .before .before .before .loop-test .taken) t ∙ rw w at (l .loop .inv))
 
 returns-2 : tie.Need-returns-2 Inv-loop μ-loop
 returns-2 c = words-end (c .before .before .args .w) (c .before .before .args .s .now) (c .before .loop .i) (c .loop-test .left) ∙ rw (toZ-ofZ (c .before .before .fits .w)) at (c .before .loop .inv)

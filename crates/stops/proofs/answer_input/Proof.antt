@@ -45,7 +45,11 @@ same-length : tie.Need-same-length
 same-length c = search needs
 
 returns : tie.Need-returns
-returns c = let u = c .before .before .before .before .before .before .before .before .before .before .before .before .before .before .read-input .ensures in let a = c .before .before .answer in heard-answered (u .0) _ _ _ (a .ensures _ (heard-text (heard (u .0)) _ _ _ _ _ _ (u .1))) (c .before .before .before .before .before .before .before .before .before .before .before .before .before .before .before .before .before .before .before .before .before .pre) (a .kept .1 .1 .1 .1 .1 .1 .0)
+returns c =
+    let u = c .before .before .before .before .before .before .before .before .before .before .before .before .before .before .read-input .ensures in
+    let a = c .before .before .answer in
+    let long = c .before .before .before .before .before .before .before .before .before .before .before .before .before .before .before .before .before .before .before .before .before .pre in
+    heard-answered (u .0) _ _ _ (a .ensures _ (heard-text (heard (u .0)) _ _ _ _ _ _ (u .1))) long (a .kept .1 .1 .1 .1 .1 .1 .0)
 
 pub answer-input-spec : {M : Type 1} → statement M
 answer-input-spec =

@@ -9,10 +9,15 @@ use Rattle.reports.proofs.view.trace_view.Statement.{statement}
 use Rattle.reports.proofs.view.trace_view.Tie as tie
 
 inside : (c : tie.After-enum-told) → c .before .before .before .before .args .trace < length (c .before .before .before .before .args .lens .now)
-inside c = view-inside (c .before .before .before .before .args .lens .now) (length (c .before .before .before .before .args .labels .now)) (c .before .before .before .before .args .trace) (sym (c .before .before .check-view .ensures) ∙ c .enum-told .given .1)
+inside c =
+    let s = c .before .before .before .before in
+    view-inside (s .args .lens .now) (length (s .args .labels .now)) (s .args .trace) (sym (c .before .before .check-view .ensures) ∙ c .enum-told .given .1)
 
-ends : (c : tie.After-shared-slice-known2) → c .before .trace-start .result + getD (c .before .before .before .before .before .before .args .lens .now) (c .before .before .before .before .before .before .args .trace) 0 ≤ length (c .before .before .before .before .before .before .args .labels .now)
-ends c = omega (arith, c .before .trace-start .ensures, view-end (c .before .before .before .before .before .before .args .lens .now) (length (c .before .before .before .before .before .before .args .labels .now)) (c .before .before .before .before .before .before .args .trace) (sym (c .before .before .before .before .check-view .ensures) ∙ c .before .before .enum-told .given .1))
+ends : (c : tie.After-shared-slice-known2) → let s = c .before .before .before .before .before .before in c .before .trace-start .result + getD (s .args .lens .now) (s .args .trace) 0 ≤ length (s .args .labels .now)
+ends c =
+    let s = c .before .before .before .before .before .before in
+    let accepted = sym (c .before .before .before .before .check-view .ensures) ∙ c .before .before .enum-told .given .1 in
+    omega (arith, c .before .trace-start .ensures, view-end (s .args .lens .now) (length (s .args .labels .now)) (s .args .trace) accepted)
 
 check-view-requires : tie.Need-check-view-requires
 check-view-requires c κs = search needs
@@ -41,7 +46,10 @@ enum-told : tie.Need-enum-told
 enum-told c = search needs
 
 trace-start-requires : tie.Need-trace-start-requires
-trace-start-requires c κs = (omega (arith, inside c), omega (arith, view-total (c .before .before .before .before .args .lens .now) (length (c .before .before .before .before .args .labels .now)) (c .before .before .before .before .args .trace) (sym (c .before .before .check-view .ensures) ∙ c .enum-told .given .1)))
+trace-start-requires c κs =
+    let s = c .before .before .before .before in
+    let accepted = sym (c .before .before .check-view .ensures) ∙ c .enum-told .given .1 in
+    (omega (arith, inside c), omega (arith, view-total (s .args .lens .now) (length (s .args .labels .now)) (s .args .trace) accepted))
 
 mul-end : tie.Need-mul-end
 mul-end c = omega (arith, inside (c .before))
