@@ -7,26 +7,6 @@ use text::Input;
 use text::Parsed;
 use tracks::refusal::Refusal;
 
-// The bits of x, of every NaN the same.
-fn bits(x: f64) -> u64 {
-    if x != x {
-        return 9221120237041090560;
-    }
-    f64::to_bits(x)
-}
-
-// Whether every float has the bits of -0.0.
-fn floats_kept(s: &[f64]) -> bool {
-    let mut i = 0;
-    while i < s.len() {
-        if bits(s[i]) != 0x8000_0000_0000_0000 {
-            return false;
-        }
-        i += 1;
-    }
-    true
-}
-
 fn marks_kept(s: &[u8]) -> bool {
     let mut i = 0;
     while i < s.len() {
@@ -50,13 +30,13 @@ fn lens_kept(s: &[u32]) -> bool {
 }
 
 fn all_kept(xs: &[f64], ys: &[f64], times: &[f64], marks: &[u8], lens: &[u32]) -> bool {
-    if !floats_kept(xs) {
+    if !replay::all_floats(xs, -0.0) {
         return false;
     }
-    if !floats_kept(ys) {
+    if !replay::all_floats(ys, -0.0) {
         return false;
     }
-    if !floats_kept(times) {
+    if !replay::all_floats(times, -0.0) {
         return false;
     }
     if !marks_kept(marks) {
