@@ -67,8 +67,8 @@ heardNext More t h = behind t h
 heardNext End t h = whole []
 heardNext Failed t h = broken
 
--- The pieces one behind the other, none left out, up to the end of the input. No call failed before it, or else the input is broken; so it is where the
--- calls stop before the end.
+-- The pieces one behind the other, none left out, up to the call that told the end. The input is broken where a call failed before that, or no call
+-- told the end.
 unfoldable pub heard : List Call → Heard
 heard [] = broken
 heard (g ∷ gs) = let h = heard gs in heardNext (nextOf (g .count)) (given (g .count) (g .buffer)) h
@@ -86,6 +86,6 @@ abbrev pub ReadFrom : Heard → List Float → List Float → List Float → Lis
 ReadFrom (whole t) xs ys times marks lens p xs' ys' times' marks' lens' = ReadAs xs ys times marks lens t p xs' ys' times' marks' lens'
 ReadFrom broken xs ys times marks lens p xs' ys' times' marks' lens' = p ≡ Refused Text
 
--- The calls after which a piece is the last.
+-- p is what is left of the calls gs: finished, it is what was read of what they told together.
 pub record Told (xs ys times : List Float) (marks lens : List ℕ) (gs : List Call) (p : Piece) (xs' ys' times' : List Float) (marks' lens' : List ℕ) : Type 0 where
   pub finish : ReadFrom (heard gs) xs ys times marks lens (finishedAs (p .next) (p .reader)) xs' ys' times' marks' lens'
