@@ -465,6 +465,18 @@ fn telling() -> Vec<Graph> {
         graph(6, 4, &[(0, 1, 19.0), (0, 3, 18.0), (2, 3, 12.657742096085853)]),
         // Each exit change divided by D by itself: two groups for one.
         graph(0, 4, &[(0, 2, 1.3211754821495292), (0, 3, 1.0), (1, 2, 1.0)]),
+        // Margin 1e-14, with the weights of a fit of 60,002 fixes: two groups for three.
+        graph(
+            0,
+            6,
+            &[
+                (0, 1, 8805.0),
+                (1, 3, 3263.0),
+                (2, 4, 6092.0),
+                (2, 5, 6358.0),
+                (3, 4, 5482.0),
+            ],
+        ),
     ]
 }
 
