@@ -412,7 +412,7 @@ fn print_all(
     print_view(lens, n, s);
 }
 
-// Fits in slices of the lengths that a fit of 512 places asks for, and hands back the model; a refused fit leaves it unfitted.
+// Fits in slices of the lengths that a fit of 8 places asks for, and hands back the model; a refused fit leaves it unfitted.
 fn fit(
     model: Infostop,
     xs: &[f64],
@@ -424,11 +424,11 @@ fn fit(
     requires { ⌜ length (now xs) ≤ 257 ⌝ }
 {
     let mut labels = [7i32; 257];
-    let mut floats = [0.0f64; 263172];
-    let mut words = [0i32; 5124];
+    let mut floats = [0.0f64; 1092];
+    let mut words = [0i32; 1092];
     let n = xs.len();
-    let floats_end = 4 * n + 262144;
-    let words_end = 4 * n + 4096;
+    let floats_end = 4 * n + 64;
+    let words_end = 4 * n + 64;
     let f = model.fit_predict_many(
         xs,
         ys,
@@ -436,7 +436,7 @@ fn fit(
         marks,
         lens,
         &mut labels[0..n],
-        512,
+        8,
         &mut floats[0..floats_end],
         &mut words[0..words_end],
     );
