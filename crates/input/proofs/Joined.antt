@@ -1,6 +1,6 @@
 -- Calls one behind the other: what each told, and what all told together.
-use mathlib.Core.Path.{_≡_, refl, sym, ap, subst, _∙_}
-use mathlib.Core.Bool.{Bool, true, false, false≢true}
+use mathlib.Core.Path.{_≡_, refl, sym, ap, _∙_}
+use mathlib.Core.Bool.{true, false, false≢true}
 use mathlib.Core.List.{List, [], _∷_, _++_, append-assoc}
 use Prim.Native.Nat.{ℕ, zero, suc, min}
 use native.Mathlib.Omega.{arith}
@@ -11,7 +11,6 @@ use lib.ListN.{length, take}
 use lib.Ieee.{Float}
 use Rattle.io.specs.Counts.{clamped}
 use Rattle.text.specs.declared.Reader.{Reader}
-use Rattle.text.specs.declared.Parsed.{Parsed}
 use Rattle.text.specs.Steps.{Machine, run}
 use Rattle.text.specs.Pieces.{startReader, holding, Fed}
 use Rattle.text.proofs.Pieces.{fed-start, fed-more, fed-end}

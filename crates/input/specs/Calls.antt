@@ -13,7 +13,7 @@ use Rattle.text.specs.declared.Reader.{Reader}
 use Rattle.text.specs.declared.Parsed.{Parsed}
 use Rattle.text.specs.declared.Parsed.the-variants.{Refused}
 use Rattle.text.specs.Steps.{Machine, run}
-use Rattle.text.specs.Pieces.{startReader, holding, finished, ReadAs}
+use Rattle.text.specs.Pieces.{finished, ReadAs}
 use Rattle.input.specs.declared.Next.{Next}
 use Rattle.input.specs.declared.Next.the-variants.{More, End, Failed}
 use Rattle.input.specs.declared.Piece.{Piece}

@@ -1,10 +1,9 @@
 -- Whether all items of a list are one value. Definitions only.
-use Prim.Native.Nat.{ℕ}
 use mathlib.Core.Bool.{Bool, true, _&&_}
 use mathlib.Core.List.{List, [], _∷_}
 use lib.Dec.{eqb}
 use lib.IntN.{ℤ}
-use lib.Ieee.{Float, binary64, toBits}
+use lib.Ieee.{Float}
 use mir.Syntax.{w32}
 use mir.Val.{ofZ}
 use Rattle.float.specs.Binary64.{sameBits}

@@ -6,7 +6,7 @@ ghost use Prim.Native.Nat.{_+_};
 ghost use lib.ListN.{length, drop, replicate};
 ghost use lib.Ieee.{binary64, ofBits, toBits};
 ghost use Rattle.replay.specs.Same.{allFloats, sameWord, allWords};
-ghost use Rattle.replay.specs.Numbers.{isDigit, withDigit, before, digits, value, start, valueAt, after};
+ghost use Rattle.replay.specs.Numbers.{isDigit, withDigit, digits, value, start, valueAt, after};
 
 // Room for a list: 1,000,000 zeros. The length is said beside them, since lending the array as a slice asks for it.
 pub fn room() -> [u8; 1000000]

@@ -8,7 +8,6 @@ use lib.Ieee.{Float}
 use Rattle.float.specs.Binary64.{zero64}
 use Rattle.tracks.specs.declared.refusal.Refusal.the-variants.{Text}
 use Rattle.text.specs.declared.Parsed.{Parsed}
-use Rattle.text.specs.declared.Parsed.the-variants.{Refused}
 use Rattle.text.specs.Bytes.{bytes}
 use Rattle.text.specs.Form.{past, settingNames, afterSettingNames, linesOf}
 use Rattle.text.specs.Values.{Read, outside, inside, valuesOf, read}
