@@ -1,5 +1,5 @@
 #!/usr/bin/env python3
-"""Puts document 01's stand-ins and the recording of mark and rounds into a copy of the Rust.
+"""Puts the rules' stand-ins and the recording of mark and rounds into a copy of the Rust.
 
 Usage: edit.py COPY ADDED
 COPY is a folder with the copied .rs files, ADDED this folder's src/.

@@ -524,7 +524,7 @@ struct Fit {
     traces: Vec<Vec<(f64, f64, Option<f64>)>>,
 }
 
-/// The settings of document 01's examples.
+/// The settings of the rules' examples.
 const EXAMPLE: Fit = Fit {
     r1: 10.0,
     r2: 10.0,
@@ -570,7 +570,7 @@ fn timed_pair(a: f64, b: f64) -> Vec<(f64, f64, Option<f64>)> {
     vec![(0.0, 0.0, Some(a)), (0.0, 0.0, Some(b))]
 }
 
-/// Document 01's tracks to try, and a track that the original labels in two ways.
+/// The rules' tracks to try, and a track that the original labels in two ways.
 fn examples() -> Vec<Fit> {
     let mut fits = vec![
         Fit::with(vec![untimed(&[(0.0, 0.0), (6.0, 8.0)])]),

@@ -1,6 +1,6 @@
 //! stops: reads a text in the program's form on standard input and prints what the program must print, by the Rust with the stand-ins.
 //! stops list: the same for each text of a list (texts.rs), with an empty line after each answer.
-//! The form and the refusals that the Rust does not have are read from document 01 here, apart from the program's own reader.
+//! The form and the refusals that the Rust does not have are read from docs/RULES.md here, apart from the program's own reader.
 use edited::config::Config;
 use edited::distance::{Euclidean, MetricKind};
 use edited::model::{self, Infostop};

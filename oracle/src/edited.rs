@@ -1,4 +1,4 @@
-//! The listed files of infostop with document 01's stand-ins, and what the oracle adds.
+//! The listed files of infostop with the rules' stand-ins, and what the oracle adds.
 pub mod cluster;
 pub mod config;
 pub mod distance;

@@ -1,7 +1,7 @@
 //! What a grouping leaves unsaid: mark and rounds of the kept trial, its codelength, and how many nodes isolation passes moved.
 use std::cell::Cell;
 
-/// Document 01's marks.
+/// The rules' marks.
 pub const REST: u32 = 0;
 pub const SPENT: u32 = 1;
 pub const NONE_KEPT: u32 = 2;

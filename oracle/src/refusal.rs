@@ -1,8 +1,8 @@
-//! The Rust's refusals, by document 01's numbers.
+//! The Rust's refusals, by the rules' numbers.
 use crate::error::Error;
 use crate::text::fail;
 
-/// Document 01's number of a refusal, and its trace.
+/// The rules' number of a refusal, and its trace.
 pub fn refusal(e: &Error) -> (u32, usize) {
     const CAUSES: [(&str, u32); 13] = [
         ("`r1` must", 1),

@@ -1,6 +1,6 @@
-//! Document 01's stand-in for ln.
+//! The rules' stand-in for ln.
 
-/// LN2 of document 01.
+/// LN2 of docs/RULES.md.
 const LN2: f64 = f64::from_bits(0x3FE6_2E42_FEFA_39EF);
 
 /// p = 2^k × m with 0.75 <= m < 1.5; halving and doubling are exact here.
@@ -17,7 +17,7 @@ fn split(p: f64) -> (f64, f64) {
     (k, m)
 }
 
-/// ln by the series of document 01, each operation rounded once.
+/// ln by the series of docs/RULES.md, each operation rounded once.
 pub fn ln(p: f64) -> f64 {
     if p.is_nan() || p < 0.0 {
         return f64::NAN;

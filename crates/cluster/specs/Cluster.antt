@@ -1,4 +1,4 @@
--- Labels of places (document 01, "Labels"; cluster.rs of the Rust). Definitions only.
+-- Labels of places (docs/RULES.md, "Labels"; cluster.rs of the Rust). Definitions only.
 use mathlib.Core.Path.{_≡_}
 use Prim.Native.Nat.{ℕ, zero, suc, _+_, _-_, _<_, _≤_, max}
 use mathlib.Core.Bool.{Bool, true, false, _&&_, cond}

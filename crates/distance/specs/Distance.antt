@@ -1,4 +1,4 @@
--- Document 01, "Distance": sqrt(dx×dx + dy×dy), each operation rounded once, sqrt the correctly rounded root; and its bound. Definitions only.
+-- docs/RULES.md, "Distance": sqrt(dx×dx + dy×dy), each operation rounded once, sqrt the correctly rounded root; and its bound. Definitions only.
 use mathlib.Core.Path.{_≡_}
 use mathlib.Core.Bool.{true}
 use Prim.Native.Nat.{ℕ}

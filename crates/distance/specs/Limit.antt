@@ -1,4 +1,4 @@
--- The size limit of coordinates (document 01, refusal 16). Definitions only.
+-- The size limit of coordinates (docs/RULES.md, refusal 16). Definitions only.
 use Prim.Native.Nat.{ℕ, _*_}
 use mathlib.Core.Bool.{Bool, false, _&&_}
 use lib.Dec.{leb}

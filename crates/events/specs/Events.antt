@@ -1,4 +1,4 @@
--- The stay numbers of the fixes of all traces, and the labels that stays and fixes have by them (document 01, "Stays" and "Labels").
+-- The stay numbers of the fixes of all traces, and the labels that stays and fixes have by them (docs/RULES.md, "Stays" and "Labels").
 -- Definitions only.
 use Prim.Native.Nat.{ℕ, _+_}
 use mathlib.Core.List.{List, [], _∷_, _++_, map}

@@ -1,4 +1,4 @@
--- Medians and labels of the fixes of all traces (document 01, "Stays" and "Labels"). The distance is a parameter. Definitions only.
+-- Medians and labels of the fixes of all traces (docs/RULES.md, "Stays" and "Labels"). The distance is a parameter. Definitions only.
 use Prim.Native.Nat.{ℕ, _+_}
 use mathlib.Core.List.{List, [], _∷_, _++_, map}
 use mathlib.Core.Option.{Option, none, some}

@@ -115,7 +115,7 @@ module _ (g : Given) where
   abbrev pub NewGroup : ℕ → Type 0
   NewGroup h = (v : ℕ) → v < length linkedMedians → getD shownGroups v 0 ≢ h
 
-  -- The change of codelength if node u moves to group h, by document 01's formula, with every sum made afresh from the groups that the labels show.
+  -- The change of codelength if node u moves to group h, by the rules' formula, with every sum made afresh from the groups that the labels show.
   abbrev pub change : ℕ → ℕ → Float
   change u h = deltaMove net (fromPartition net shownGroups) u h
 

@@ -1,4 +1,4 @@
--- Document 01's starred facts, proved together about the definitions by computing them.
+-- The rules' starred facts, proved together about the definitions by computing them.
 use mathlib.Core.Path.{_≡_, refl}
 use mathlib.Core.Bool.{true}
 use mathlib.Core.List.{[], _∷_}

@@ -1,4 +1,4 @@
--- The whole fit: from settings and the caller's slices to a refusal, or labels, places, mark and rounds (document 01). Definitions only.
+-- The whole fit: from settings and the caller's slices to a refusal, or labels, places, mark and rounds (docs/RULES.md). Definitions only.
 use Prim.Native.Nat.{ℕ}
 use mathlib.Core.Bool.{Bool, true, false}
 use mathlib.Core.List.{List, [], _∷_}
@@ -35,7 +35,7 @@ pub record Fitted : Type 0 where
   pub mark : RunMark
   pub rounds : ℕ
 
--- A fit gives one of the two. Document 01's number and trace of a refusal are `numberOf` and `traceOf` of crate `tracks`.
+-- A fit gives one of the two. The rules' number and trace of a refusal are `numberOf` and `traceOf` of crate `tracks`.
 pub data Outcome : Type 0 where
   refused : Refusal → Outcome
   fitted : Fitted → Outcome

@@ -1,4 +1,4 @@
--- Document 01's settings and tracks to try, in a form that reads like its list. Definitions only.
+-- The rules' settings and tracks to try, in a form that reads like their list. Definitions only.
 use Prim.Native.Nat.{ℕ}
 use mathlib.Core.Bool.{Bool, true, false}
 use mathlib.Core.List.{List, [], _∷_, _++_, map}

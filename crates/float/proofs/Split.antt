@@ -1,4 +1,4 @@
--- The k and m of `ln` are those that document 01 names: p = 2 ^ k * m with 0.75 ≤ m < 1.5 (`split`), where m is a value of the format (`mantissa-is`, `mantissa-held`), and there are no others
+-- The k and m of `ln` are those that docs/RULES.md names: p = 2 ^ k * m with 0.75 ≤ m < 1.5 (`split`), where m is a value of the format (`mantissa-is`, `mantissa-held`), and there are no others
 -- (`split-unique`). Fractions are pairs of whole numbers: 2 ^ k is up k / down k. Assumes nothing.
 use mathlib.Core.Path.{_≡_, refl, sym, ap, _∙_}
 use mathlib.Core.Logic.{_⊎_, inl, inr}

@@ -1,4 +1,4 @@
--- Document 01's stand-in for ln, each operation rounded once, and plogp. Definitions only.
+-- The rules' stand-in for ln, each operation rounded once, and plogp. Definitions only.
 use Prim.Native.Nat.{ℕ, zero, suc, _+_, _-_, _*_, _^_}
 use mathlib.Core.Bool.{true, false, cond}
 use lib.IntN.{ℤ, pos, _+ℤ_}

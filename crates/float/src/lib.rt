@@ -1,4 +1,4 @@
-// Of an f64: the correctly rounded square root, document 01's stand-in for the natural logarithm, plogp and the finite test.
+// Of an f64: the correctly rounded square root, the rules' stand-in for the natural logarithm, plogp and the finite test.
 ghost use mathlib.Core.Path.{_≡_};
 ghost use Prim.Native.Nat.{ℕ, _+_, _-_, _*_, _/_, _^_, _≤_, _<_};
 ghost use mathlib.Core.Bool.{false};

@@ -15,7 +15,7 @@ use Rattle.infomap.specs.declared.Mark.{Mark}
 use Rattle.infomap.specs.declared.Mark.the-variants.{Rest, Spent, NoneKept}
 use Rattle.infomap.specs.declared.Kept.{Kept}
 
--- Document 01's marks of a run.
+-- The rules' marks of a run.
 pub data RunMark : Type 0 where
   rest spent noneKept : RunMark
 

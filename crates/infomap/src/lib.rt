@@ -222,7 +222,8 @@ fn run_in(
     labels: &mut [u32],
     seed: u64,
 ) -> Kept
-    requires { ⌜ (Sized (now table) stride (now strength) (now partition) (now first) (now exits) (now strengths)) × (length (now order) ≡ length (now partition)) × (length (now best) ≡ length (now partition)) × (length (now labels) ≡ length (now partition)) × (Rows (now table) stride (length (now partition))) ⌝ }
+    requires { ⌜ (Sized (now table) stride (now strength) (now partition) (now first) (now exits) (now strengths)) × (length (now order) ≡ length (now partition))
+        × (length (now best) ≡ length (now partition)) × (length (now labels) ≡ length (now partition)) × (Rows (now table) stride (length (now partition))) ⌝ }
     ensures { λ r. ⌜ groupingOf (now (labels .exit)) r ≡ runInfomap (network (now (table .entry)) stride (length (now (labels .entry)))) seed ⌝ }
 {
     map_state::sum_strengths(table, stride, strength);

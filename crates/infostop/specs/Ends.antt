@@ -21,7 +21,7 @@ use Rattle.infostop.specs.declared.answer.Answer.the-variants.{Labelled,
 use Rattle.infostop.specs.declared.answer.Fit.{Fit}
 use Rattle.infostop.specs.Models.{modelAfter}
 
--- What is told of a fit: document 01's number of the refusal and its trace, or the mark and the rounds of the kept trial.
+-- What is told of a fit: the rules' number of the refusal and its trace, or the mark and the rounds of the kept trial.
 pub data Told : Type 0 where
   no : ℕ → ℕ → Told
   kept : RunMark → ℕ → Told

@@ -1,4 +1,4 @@
--- The model (document 01, "Labels": places and their labels in arrays of 512 and a fitted flag, beside its settings). Definitions only.
+-- The model (docs/RULES.md, "Model": places and their labels in arrays of 512 and a fitted flag, beside its settings). Definitions only.
 use mathlib.Core.Bool.{true, false}
 use lib.IntN.{negsuc}
 use lib.ListN.{length, replicate}

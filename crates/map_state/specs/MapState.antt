@@ -13,7 +13,7 @@ use Rattle.map_state.specs.declared.Links.{Links}
 use Rattle.map_state.specs.declared.ModuleStats.{ModuleStats}
 use Rattle.map_state.specs.declared.Moved.{Moved}
 
--- qExit is document 01's Q.
+-- qExit is the rules' Q.
 pub record MapState : Type 0 where
   pub partition : List ℕ
   pub exits : List Float

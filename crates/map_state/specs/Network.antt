@@ -8,7 +8,7 @@ use lib.ListN.{length, take, drop}
 use lib.Ieee.{Float, lt}
 use Rattle.float.specs.Binary64.{add64, mul64, zero64, two64}
 
--- Beside the table: each node's strength, and document 01's D, twice the total weight (`two_m`).
+-- Beside the table: each node's strength, and the rules' D, twice the total weight (`two_m`).
 pub record Network : Type 0 where
   pub table : List Float
   pub stride : ℕ

@@ -1,4 +1,4 @@
--- Chains of places over the computed distance (document 01, "Links"). Definitions only.
+-- Chains of places over the computed distance (docs/RULES.md, "Links"). Definitions only.
 use mathlib.Core.Path.{_≡_}
 use Prim.Native.Nat.{ℕ, _<_}
 use mathlib.Core.Bool.{true}

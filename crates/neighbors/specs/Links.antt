@@ -1,4 +1,4 @@
--- Links between places, nodes and singles (document 01, "Links"). The distance is a parameter. Definitions only.
+-- Links between places, nodes and singles (docs/RULES.md, "Links"). The distance is a parameter. Definitions only.
 use Prim.Native.Nat.{ℕ, max}
 use mathlib.Core.Bool.{Bool, not, _&&_, cond}
 use mathlib.Core.List.{List}

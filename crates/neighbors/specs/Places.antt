@@ -1,4 +1,4 @@
--- Distinct medians (document 01, "Distinct medians"). Definitions only.
+-- Distinct medians (docs/RULES.md, "Distinct medians"). Definitions only.
 use mathlib.Core.Path.{_≡_}
 use mathlib.Core.Logic.{_≢_}
 use Prim.Native.Nat.{ℕ, suc, _+_, _<_}
@@ -95,6 +95,6 @@ placeCounts ps = map (λ (p : Place). p .count) ps
 abbrev pub front : List Float → List Float → List ℕ → ℕ → List Place
 front xs ys cs n = placesIn (take n xs) (take n ys) (take n cs)
 
--- How many places there are, or more than the caller's cap (document 01's 19).
+-- How many places there are, or more than the caller's cap (the rules' 19).
 unfoldable pub distinctWithin : ℕ → List Place → PlaceCount
 distinctWithin cap ps = cond (leb (length ps) cap) (Places (length ps)) TooMany

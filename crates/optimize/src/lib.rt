@@ -40,7 +40,8 @@ fn act(
     a: Scan,
 ) -> PassState
     requires { ⌜ (Sized (now table) stride (now strength) (now partition) (now first) (now exits) (now strengths)) × (u < length (now partition)) × (Firsts (now partition) (now first)) ⌝ }
-    ensures { λ r. ⌜ (passOf (now (partition .exit)) (now (exits .exit)) (now (strengths .exit)) r ≡ act (netOf (now (table .entry)) stride (now (strength .entry)) d) (passOf (now (partition .entry)) (now (exits .entry)) (now (strengths .entry)) w) u (answerOf a)) × Firsts (now (partition .exit)) (now (first .exit)) ⌝ }
+    ensures { λ r. ⌜ (passOf (now (partition .exit)) (now (exits .exit)) (now (strengths .exit)) r ≡ act (netOf (now (table .entry)) stride (now (strength .entry)) d) (passOf (now (partition .entry)) (now (exits .entry)) (now (strengths .entry)) w) u (answerOf a))
+        × Firsts (now (partition .exit)) (now (first .exit)) ⌝ }
 {
     match a {
         Scan::Stay => w,
@@ -80,7 +81,8 @@ fn move_pass(
     start: PassState,
 ) -> PassState
     requires { ⌜ (Sized (now table) stride (now strength) (now partition) (now first) (now exits) (now strengths)) × (Firsts (now partition) (now first)) × (Below (length (now partition)) (now order)) × (length (now order) ≤ 512) ⌝ }
-    ensures { λ r. ⌜ (passOf (now (partition .exit)) (now (exits .exit)) (now (strengths .exit)) r ≡ movePass (netOf (now (table .entry)) stride (now (strength .entry)) d) (passOf (now (partition .entry)) (now (exits .entry)) (now (strengths .entry)) start) (now (order .entry))) × Firsts (now (partition .exit)) (now (first .exit)) ⌝ }
+    ensures { λ r. ⌜ (passOf (now (partition .exit)) (now (exits .exit)) (now (strengths .exit)) r ≡ movePass (netOf (now (table .entry)) stride (now (strength .entry)) d) (passOf (now (partition .entry)) (now (exits .entry)) (now (strengths .entry)) start) (now (order .entry)))
+        × Firsts (now (partition .exit)) (now (first .exit)) ⌝ }
 {
     let mut w = start;
     let mut i = 0;
@@ -131,7 +133,8 @@ fn isolation_pass(
     start: PassState,
 ) -> PassState
     requires { ⌜ (Sized (now table) stride (now strength) (now partition) (now first) (now exits) (now strengths)) × (Firsts (now partition) (now first)) × (Below (length (now partition)) (now order)) × (length (now order) ≤ 512) × (AtMost 900000 (now partition)) ⌝ }
-    ensures { λ r. ⌜ (passOf (now (partition .exit)) (now (exits .exit)) (now (strengths .exit)) r ≡ isolationPass (netOf (now (table .entry)) stride (now (strength .entry)) d) (passOf (now (partition .entry)) (now (exits .entry)) (now (strengths .entry)) start) (now (order .entry))) × Firsts (now (partition .exit)) (now (first .exit)) ⌝ }
+    ensures { λ r. ⌜ (passOf (now (partition .exit)) (now (exits .exit)) (now (strengths .exit)) r ≡ isolationPass (netOf (now (table .entry)) stride (now (strength .entry)) d) (passOf (now (partition .entry)) (now (exits .entry)) (now (strengths .entry)) start) (now (order .entry)))
+        × Firsts (now (partition .exit)) (now (first .exit)) ⌝ }
 {
     let mut w = start;
     let mut k = 0;

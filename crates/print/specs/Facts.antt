@@ -1,4 +1,4 @@
--- What is printed for document 01's example and its refusal `15 0`, and labels of two traces. Proved by computing.
+-- What is printed for the rules' example and its refusal `15 0`, and labels of two traces. Proved by computing.
 use mathlib.Core.Path.{_≡_, refl}
 use mathlib.Core.List.{List, [], _∷_}
 use Prim.Native.Nat.{ℕ}

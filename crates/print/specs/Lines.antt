@@ -1,4 +1,4 @@
--- What the program `stops` prints (document 01, "Program `stops`"), as lists of bytes. Definitions only.
+-- What the program `stops` prints (docs/RULES.md, "Program `stops`"), as lists of bytes. Definitions only.
 use Prim.Native.Nat.{ℕ, zero, suc, _+_, _/_, _%_}
 use mathlib.Core.Bool.{Bool, true, false, cond}
 use mathlib.Core.List.{List, [], _∷_, _++_}

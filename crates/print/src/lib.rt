@@ -1,4 +1,4 @@
-// What the program `stops` prints (document 01, "Program `stops`"), into a lent slice of bytes.
+// What the program `stops` prints (docs/RULES.md, "Program `stops`"), into a lent slice of bytes.
 use tracks::refusal::Refusal;
 ghost use Rattle.print.specs.Lines.{labelsText, refusalText};
 ghost use Rattle.print.specs.Written.{Writes};

@@ -39,7 +39,7 @@ roomFor n columns marks = leb (3 * n) columns && leb n marks
 unfoldable pub workFloats : ℕ → ℕ → ℕ → ℕ → ℕ
 workFloats n columns marks floats = cond (roomFor n columns marks) floats 0
 
--- The fit of the records: 10 in document 01's order where columns or marks are too short. `labels`, `columns`, `marks`, `floats` and `words` are
+-- The fit of the records: 10 in the rules' order where columns or marks are too short. `labels`, `columns`, `marks`, `floats` and `words` are
 -- the lengths of the lent slices.
 unfoldable pub fitRecords : Config → List FixRecord → List ℕ → ℕ → ℕ → ℕ → ℕ → ℕ → ℕ → Outcome
 unfolding workFloats fit

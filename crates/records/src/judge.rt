@@ -1,4 +1,4 @@
-// The checks of records before anything is written: a machine that takes them one by one, and the verdict at the end, in document 01's order.
+// The checks of records before anything is written: a machine that takes them one by one, and the verdict at the end, in the rules' order.
 use crate::FixRecord;
 use infostop::model::Infostop;
 use tracks::refusal::Checked;

@@ -1,9 +1,9 @@
-// Runs a list of fits for document 01's refusals and for what they leave as it was. A case: settings `r1 r2 single stay gap size seed`; the
+// Runs a list of fits for the rules' refusals and for what they leave as it was. A case: settings `r1 r2 single stay gap size seed`; the
 // lengths of the slices lent, `xs ys times marks labels`; `places`; the lengths of the work slices, `floats words`; the number of traces and
 // their lengths; the number of fixes that follow, and for each `x y mark time`, floats as their bits. What no fix fills is 0. The model that
 // a case is run with comes from a fit of two places with the same settings. Prints, for each case, the number and trace of the refusal, or
 // `0 0`; 1 where the labels are as they were, else 0; the same of the model, its settings too, bit for bit; the same of the work slices, and 2
-// where what they hold is free; the number of places in the model. The answers of the list are written by hand from document 01.
+// where what they hold is free; the number of places in the model. The answers of the list are written by hand from docs/RULES.md.
 use infostop::answer::Answer;
 use infostop::model::Infostop;
 use libc::STDIN_FILENO;

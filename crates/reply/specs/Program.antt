@@ -1,4 +1,4 @@
--- The whole program, from the bytes of its input to those of its output (document 01, "Program `stops`"). Definitions only.
+-- The whole program, from the bytes of its input to those of its output (docs/RULES.md, "Program `stops`"). Definitions only.
 use Prim.Native.Nat.{ℕ}
 use mathlib.Core.Bool.{Bool, true, false}
 use mathlib.Core.List.{List}

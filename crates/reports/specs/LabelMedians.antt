@@ -1,4 +1,4 @@
--- Label medians (document 01, "Label medians", in rising label: the median of each label's places). Definitions only.
+-- Label medians (docs/RULES.md, "Label medians", in rising label: the median of each label's places). Definitions only.
 use mathlib.Core.Path.{_≡_}
 use Prim.Native.Nat.{ℕ}
 use mathlib.Core.Bool.{_||_, cond}

@@ -1,4 +1,4 @@
--- Reports on the model: what they check, what they hand back, and how an output slice ends (document 01, "When no labels are given" and "Labels").
+-- Reports on the model: what they check, what they hand back, and how an output slice ends (docs/RULES.md, "When no labels are given" and "Model").
 -- Definitions only.
 use mathlib.Core.Path.{_≡_}
 use Prim.Native.Nat.{ℕ, min}

@@ -1,4 +1,4 @@
--- The trace view (document 01, "Trace view"): the labels of one trace as a part of the label slice. Definitions only.
+-- The trace view (docs/RULES.md, "Trace view"): the labels of one trace as a part of the label slice. Definitions only.
 use mathlib.Core.Path.{_≡_}
 use Prim.Native.Nat.{ℕ, _+_, _*_}
 use mathlib.Core.List.{List, [], _∷_, _++_}

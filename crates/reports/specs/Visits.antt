@@ -1,4 +1,4 @@
--- Visits (document 01, "Visits"). Definitions only.
+-- Visits (docs/RULES.md, "Visits"). Definitions only.
 use mathlib.Core.Path.{_≡_}
 use Prim.Native.Nat.{ℕ, suc}
 use mathlib.Core.Bool.{true, _||_, cond}

@@ -1,4 +1,4 @@
--- Document 01's kept trial: the first of the three whose codelength is below infinity and above no other's; and whether a node changed its group in
+-- The rules' kept trial: the first of the three whose codelength is below infinity and above no other's; and whether a node changed its group in
 -- the last round of it. Definitions only.
 use mathlib.Core.Path.{_≡_}
 use Prim.Native.Nat.{ℕ, zero, suc, _-_, _<_}

@@ -1,4 +1,4 @@
--- Document 01's facts on the generator, computed from the definition.
+-- The rules' facts on the generator, computed from the definition.
 use mathlib.Core.Path.{_≡_, refl}
 use Rattle.rng.specs.Rng.{nextU64, seeded}
 

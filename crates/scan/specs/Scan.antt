@@ -12,7 +12,7 @@ use Rattle.map_state.specs.MapState.{MapState, deltaMove}
 use Rattle.scan.specs.declared.Scan.{Scan}
 use Rattle.scan.specs.declared.Scan.the-variants.{Stay, Move}
 
--- Document 01: a scan answers either no move, or the group and its change.
+-- docs/RULES.md: a scan answers either no move, or the group and its change.
 pub data Answer : Type 0 where
   noMove : Answer
   move : ℕ → Float → Answer

@@ -1,4 +1,4 @@
--- The definitions, run at a few values: document 01's list for a median and for single traces.
+-- The definitions, run at a few values: the rules' list for a median and for single traces.
 use mathlib.Core.Path.{_≡_, refl}
 use mathlib.Core.List.{List, [], _∷_}
 use mathlib.Core.Option.{Option, none, some}

@@ -1,4 +1,4 @@
--- Document 01, "Stays": the coordinates of a group in order, and their median. Definitions only.
+-- docs/RULES.md, "Stays": the coordinates of a group in order, and their median. Definitions only.
 use Prim.Native.Nat.{ℕ, suc, _-_, _/_}
 use mathlib.Core.Bool.{Bool, true, _&&_, _||_, cond}
 use mathlib.Core.List.{List, [], _∷_, _++_}

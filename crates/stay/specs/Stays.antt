@@ -1,4 +1,4 @@
--- Document 01, "Stays": the groups of a trace, which of them are stays, and their medians. Definitions only.
+-- docs/RULES.md, "Stays": the groups of a trace, which of them are stays, and their medians. Definitions only.
 use Prim.Native.Nat.{ℕ, suc, _-_}
 use mathlib.Core.Bool.{Bool, true, false, not, _&&_, _||_, cond}
 use mathlib.Core.List.{List, [], _∷_, _++_, map}

@@ -1,4 +1,4 @@
--- Texts that the definitions are tried on: document 01's example, and the edges of its rules. Proved by computing.
+-- Texts that the definitions are tried on: the rules' example, and the edges of the form. Proved by computing.
 use mathlib.Core.Path.{_≡_, refl}
 use mathlib.Core.Bool.{Bool, true, false}
 use mathlib.Core.List.{List, [], _∷_, _++_}
@@ -36,7 +36,7 @@ takes : List ℕ → Bool
 unfolding bytes initial refused begun signed grown ended nameByte fieldByte isDigit fieldSign endOf after ends rowByte rowSizes rowSigns settingNames fixNames lexed lexedSizes lexedSigns setLine fixLine settingsOk settled fixOk more counted noted judged stored signedWhole timed kept step run startReader
 takes t = ended (run (holding startReader [] [] [] [] []) t .at)
 
--- Names and settings as in document 01, and these lines of fixes.
+-- Names and settings as in docs/RULES.md, and these lines of fixes.
 fixesOf : String → List ℕ
 unfolding bytes
 fixesOf s = bytes "r1 r2 single stay gap size seed\n10 10 1 300 86400 2 42\ntrace x y time\n" ++ bytes s
@@ -52,7 +52,7 @@ w = whole64
 usual : Config
 usual = record { r1 = w 10; r2 = w 10; «label_singleton» = true; «min_staying_time» = w 300; «max_time_between» = w 86400; «min_size» = 2; seed = 42 }
 
--- ---- document 01's example
+-- ---- the rules' example
 
 example : List ℕ
 unfolding bytes

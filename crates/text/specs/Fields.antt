@@ -1,4 +1,4 @@
--- A field of the house form (document 01, "Program `stops`"): a whole number of size up to 10^9, an optional minus and digits; or a minus alone,
+-- A field of the house form (docs/RULES.md, "Program `stops`"): a whole number of size up to 10^9, an optional minus and digits; or a minus alone,
 -- which a time may be. Definitions only.
 use Prim.Native.Nat.{ℕ, _+_, _-_, _*_}
 use mathlib.Core.Bool.{Bool, true, false, cond, _&&_, not}

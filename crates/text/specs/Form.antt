@@ -1,4 +1,4 @@
--- The house form by lines and fields (document 01, "Program `stops`"): a line of names, a line of settings, a line of names, a line for each fix.
+-- The house form by lines and fields (docs/RULES.md, "Program `stops`"): a line of names, a line of settings, a line of names, a line for each fix.
 -- Definitions only.
 use Prim.Native.Nat.{ℕ, zero, suc, _+_}
 use mathlib.Core.Bool.{Bool, true, false, _&&_, _||_}

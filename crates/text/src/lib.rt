@@ -1,4 +1,4 @@
-// The house form of the program `stops` (document 01, "Program `stops`"): a text is parsed into settings and tracks, whole or in pieces.
+// The house form of the program `stops` (docs/RULES.md, "Program `stops`"): a text is parsed into settings and tracks, whole or in pieces.
 use crate::state::State;
 use tracks::config::Config;
 use tracks::refusal::Checked;

@@ -1,4 +1,4 @@
--- What holds of a trace that the checks accept: document 01's 11 to 16 do not. Assumes nothing.
+-- What holds of a trace that the checks accept: the rules' 11 to 16 do not. Assumes nothing.
 use mathlib.Core.Path.{_≡_, refl, sym, ap, _∙_}
 use mathlib.Core.Bool.{Bool, true, false, not, _&&_}
 use mathlib.Core.List.{List, [], _∷_}

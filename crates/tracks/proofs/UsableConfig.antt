@@ -1,4 +1,4 @@
--- What holds of settings that their check accepts: document 01's 1 to 6 do not. Assumes nothing.
+-- What holds of settings that their check accepts: the rules' 1 to 6 do not. Assumes nothing.
 use mathlib.Core.Path.{_≡_, refl, sym, ap, _∙_}
 use mathlib.Core.Bool.{Bool, true, false, not, _||_}
 use Prim.Native.Nat.{ℕ, _≤_}

@@ -23,7 +23,7 @@ unfolding checkConfig checkTimeBounds unusable inTurn firstOf refuseIf finite le
 config stay gap size =
     checkConfig record { r1 = whole64 10; r2 = whole64 10; «label_singleton» = true; «min_staying_time» = whole64 stay; «max_time_between» = whole64 gap; «min_size» = size; seed = 42 }
 
--- Those of document 01's list.
+-- Those of the rules' list.
 usual : config 300 86400 2 ≡ Accepted
 unfolding config
 usual = refl

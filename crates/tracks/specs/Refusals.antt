@@ -1,4 +1,4 @@
--- The numbers of document 01, "When no labels are given", for each refusal, and the trace that it carries. Definitions only.
+-- The numbers of docs/RULES.md, "When no labels are given", for each refusal, and the trace that it carries. Definitions only.
 use Prim.Native.Nat.{ℕ}
 use Rattle.tracks.specs.declared.refusal.Refusal.{Refusal}
 use Rattle.tracks.specs.declared.refusal.Refusal.the-variants.{R1, R2, MinStayingTime, MaxTimeBetween, TimeBounds, MinSize, NoTrace, Lengths, Counts, Work, EmptyTrace, Coordinate, Timestamp, PartlyTimed, TimeOrder, CoordinateSize, TimeMark, NoStop, TooManyPlaces, NotFitted, Output, Text}

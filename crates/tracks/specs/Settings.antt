@@ -1,4 +1,4 @@
--- The check of the settings: document 01's refusals 1 to 6, in their order. Definitions only.
+-- The check of the settings: the rules' refusals 1 to 6, in their order. Definitions only.
 use mathlib.Core.Bool.{Bool, not, _||_}
 use mathlib.Core.List.{List, [], _∷_}
 use lib.Dec.{leb}

@@ -1,4 +1,4 @@
--- The checks of one trace, of number k: document 01's refusals 11 to 16. Definitions only.
+-- The checks of one trace, of number k: the rules' refusals 11 to 16. Definitions only.
 use Prim.Native.Nat.{ℕ}
 use mathlib.Core.Bool.{Bool, true, false, not, _&&_}
 use mathlib.Core.List.{List, [], _∷_}

@@ -1,4 +1,4 @@
--- The checks of tracks: document 01's refusals 7 to 17, in the order that it gives. Tracks are columns of coordinates, times and time marks,
+-- The checks of tracks: the rules' refusals 7 to 17, in the order that they give. Tracks are columns of coordinates, times and time marks,
 -- and the lengths of the traces. Definitions only.
 use Prim.Native.Nat.{ℕ, _+_, _*_}
 use mathlib.Core.Bool.{Bool, not, _&&_, _||_}

@@ -1,4 +1,4 @@
-// The checks of settings and tracks that come before a fit, and the refusals (document 01, "When no labels are given"). Those of tracks go in
+// The checks of settings and tracks that come before a fit, and the refusals (docs/RULES.md, "When no labels are given"). Those of tracks go in
 // its order: 7, 8, 9, 10, 17; then trace by trace 11 to 15; after all traces 16.
 pub mod config;
 pub mod fix;

@@ -1,4 +1,4 @@
-// Why no labels are given: a case for each cause, in the order of document 01's numbers.
+// Why no labels are given: a case for each cause, in the order of the rules' numbers.
 ghost use mathlib.Core.Path.{_≡_};
 ghost use Rattle.tracks.specs.Refusals.{numberOf, traceOf};
 ghost use Rattle.tracks.specs.Checks.{isRefused};
@@ -35,7 +35,7 @@ pub enum Checked {
     Refused(Refusal),
 }
 
-// Document 01's number of a refusal.
+// The rules' number of a refusal.
 pub fn number(e: Refusal) -> u32
     ensures { λ r. ⌜ r ≡ numberOf e ⌝ }
 {
