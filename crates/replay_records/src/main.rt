@@ -121,7 +121,7 @@ fn print_marks(marks: &[u8; 8]) {
 
 // Columns and marks: whether they are as they were, and where not, what they hold.
 fn print_taken(columns: &[f64; 16], marks: &[u8; 8]) {
-    let a = same::floats_are(columns, -0.0);
+    let a = replay::all_floats(columns, -0.0);
     let b = same::bytes_are(marks, 9);
     print_flag(a);
     print_flag(b);
@@ -135,12 +135,12 @@ fn print_taken(columns: &[f64; 16], marks: &[u8; 8]) {
 }
 
 fn labels_kept(labels: &[i32; 8]) -> bool {
-    same::words_are(labels, 7)
+    replay::all_words(labels, 7)
 }
 
 fn work_kept(floats: &[f64; 64], words: &[i32; 64]) -> bool {
-    if same::floats_are(floats, 0.5) {
-        return same::words_are(words, 9);
+    if replay::all_floats(floats, 0.5) {
+        return replay::all_words(words, 9);
     }
     false
 }

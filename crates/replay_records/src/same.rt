@@ -2,41 +2,11 @@
 use infostop::model::Infostop;
 use tracks::config::Config;
 
-// The bits of x, of every NaN the same.
-fn bits(x: f64) -> u64 {
-    if x != x {
-        return 9221120237041090560;
-    }
-    f64::to_bits(x)
-}
-
 fn same_float(x: f64, y: f64) -> bool {
-    bits(x) == bits(y)
+    replay::bits_of(x) == replay::bits_of(y)
 }
 
-// Whether all floats are x.
-pub fn floats_are(s: &[f64], x: f64) -> bool {
-    let mut i = 0;
-    while i < s.len() {
-        if !same_float(s[i], x) {
-            return false;
-        }
-        i += 1;
-    }
-    true
-}
-
-pub fn words_are(s: &[i32], w: i32) -> bool {
-    let mut i = 0;
-    while i < s.len() {
-        if s[i] != w {
-            return false;
-        }
-        i += 1;
-    }
-    true
-}
-
+// Whether all bytes are b.
 pub fn bytes_are(s: &[u8], b: u8) -> bool {
     let mut i = 0;
     while i < s.len() {
