@@ -32,8 +32,8 @@ use Rattle.infostop.proofs.Ending.{refused-ends, no-kept}
 use Rattle.infostop.proofs.Promises.{both-accepted, free-work}
 use Rattle.records.specs.declared.FixRecord.{FixRecord}
 use Rattle.records.specs.declared.judge.Judge.{Judge}
-use Rattle.records.specs.declared.judge.Packed.{Packed}
-use Rattle.records.specs.declared.judge.Verdict.{Verdict}
+use Rattle.records.specs.declared.packed.Packed.{Packed}
+use Rattle.records.specs.declared.verdict.Verdict.{Verdict}
 use Rattle.records.specs.Records.{fixOf, xsOf, ysOf, timesOf, marksOf, roomFor, workFloats, fitRecords, taken, marked}
 use Rattle.records.specs.Judge.{started, run, packed, unpacked, checksFrom, checkRecords, verdictBy}
 use Rattle.records.specs.Steps.{putAt, markAt, steps, Ready}

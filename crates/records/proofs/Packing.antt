@@ -18,7 +18,7 @@ use Rattle.tracks.specs.Traces.{checkFix, checkFixSize}
 use Rattle.records.specs.declared.FixRecord.{FixRecord}
 use Rattle.records.specs.declared.judge.Times.{Times}
 use Rattle.records.specs.declared.judge.Judge.{Judge}
-use Rattle.records.specs.declared.judge.Packed.{Packed}
+use Rattle.records.specs.declared.packed.Packed.{Packed}
 use Rattle.records.specs.Records.{fixOf}
 use Rattle.records.specs.Judge.{timesChecked, begun, passed, ended, next, blank, started, stepped, run, numberIn, traceIn, checkedOf, packed, unpacked}
 use Rattle.records.specs.Steps.{noRecord}

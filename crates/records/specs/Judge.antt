@@ -20,8 +20,8 @@ use Rattle.tracks.specs.Tracks.{checkLengths, checkCounts, checkWork, checkTrac
 use Rattle.records.specs.declared.FixRecord.{FixRecord}
 use Rattle.records.specs.declared.judge.Times.{Times}
 use Rattle.records.specs.declared.judge.Judge.{Judge}
-use Rattle.records.specs.declared.judge.Packed.{Packed}
-use Rattle.records.specs.declared.judge.Verdict.{Verdict}
+use Rattle.records.specs.declared.packed.Packed.{Packed}
+use Rattle.records.specs.declared.verdict.Verdict.{Verdict}
 use Rattle.records.specs.Records.{fixOf, xsOf, ysOf, timesOf, marksOf, workFloats}
 
 -- ---- the times of the open trace

@@ -10,7 +10,7 @@ use Rattle.tracks.specs.declared.config.Config.{Config}
 use Rattle.tracks.specs.Columns.{readTime}
 use Rattle.tracks.specs.declared.refusal.Checked.the-variants.{Accepted}
 use Rattle.records.specs.declared.FixRecord.{FixRecord}
-use Rattle.records.specs.declared.judge.Verdict.{Verdict}
+use Rattle.records.specs.declared.verdict.Verdict.{Verdict}
 use Rattle.records.specs.Records.{xsOf, ysOf, timesOf, marksOf}
 use Rattle.records.specs.Judge.{checkRecords, verdictBy}
 

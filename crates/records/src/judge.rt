@@ -1,16 +1,13 @@
-// The checks of records before anything is written: a machine that takes them one by one, and the verdict at the end, in the rules' order.
+// The checks of records before anything is written: a machine that takes them one by one, and what it says of them at the end, in the rules' order.
 use crate::FixRecord;
-use infostop::model::Infostop;
 use tracks::refusal::Checked;
 use tracks::refusal::Refusal;
 ghost use mathlib.Core.Path.{_≡_};
-ghost use mathlib.Core.Bool.{_&&_, not};
+ghost use mathlib.Core.Bool.{_&&_};
 ghost use Prim.Native.Nat.{_-_};
-ghost use lib.ListN.{length};
 ghost use Rattle.tracks.specs.Checks.{refuseIf, firstOf};
 ghost use Rattle.tracks.specs.Columns.{readTime};
-ghost use Rattle.records.specs.Judge.{noTimes as Judge·noTimes, withTime, timesChecked, begun, passed, ended, next as Judge·next, started, stepped, contents as Judge·contents, numberIn, traceIn, checkedOf, packed, unpacked, checksFrom, verdictBy};
-ghost use Rattle.records.specs.Records.{workFloats};
+ghost use Rattle.records.specs.Judge.{noTimes as Judge·noTimes, withTime, timesChecked, begun, passed, ended, next as Judge·next, started, stepped, contents as Judge·contents};
 
 // The times of the open trace so far: whether all are there, none is, and each is at most the next; the last mark and time.
 pub struct Times {
@@ -30,24 +27,6 @@ pub struct Judge {
     pub trace: usize,
     pub left: usize,
     pub times: Times,
-}
-
-// The same in plain numbers, for the loop over the records: a refusal by its number and its trace, 0 where there is none.
-pub struct Packed {
-    pub marks: bool,
-    pub first: u32,
-    pub first_trace: usize,
-    pub far: u32,
-    pub far_trace: usize,
-    pub trace: usize,
-    pub left: usize,
-    pub times: Times,
-}
-
-// What is known before anything is written: the first refusal of 1 to 17, and how many records are to be taken apart, none where there is one.
-pub struct Verdict {
-    pub checked: Checked,
-    pub fixes: usize,
 }
 
 // The time beside a mark, 0.0 where there is none.
@@ -206,7 +185,7 @@ fn next(s: Judge, lens: &[u32]) -> Judge
 }
 
 // Before the first record.
-fn start(lens: &[u32]) -> Judge
+pub fn start(lens: &[u32]) -> Judge
     ensures { λ r. ⌜ r ≡ started (now (lens .entry)) ⌝ }
 {
     let s = Judge {
@@ -224,7 +203,7 @@ fn start(lens: &[u32]) -> Judge
 }
 
 // One record.
-fn step(s: Judge, f: FixRecord, lens: &[u32]) -> Judge
+pub fn step(s: Judge, f: FixRecord, lens: &[u32]) -> Judge
     ensures { λ r. ⌜ r ≡ stepped (now (lens .entry)) s f ⌝ }
 {
     let t = pass(s, f);
@@ -234,185 +213,11 @@ fn step(s: Judge, f: FixRecord, lens: &[u32]) -> Judge
     t
 }
 
-// The number of a refusal, 0 of none.
-fn number_in(c: Checked) -> u32
-    ensures { λ r. ⌜ r ≡ numberIn c ⌝ }
-{
-    match c {
-        Checked::Accepted => 0,
-        Checked::Refused(e) => tracks::refusal::number(e),
-    }
-}
-
-fn trace_in(c: Checked) -> usize
-    ensures { λ r. ⌜ r ≡ traceIn c ⌝ }
-{
-    match c {
-        Checked::Accepted => 0,
-        Checked::Refused(e) => tracks::refusal::trace(e),
-    }
-}
-
-// The refusal of a trace from its number.
-fn checked_of(number: u32, trace: usize) -> Checked
-    ensures { λ r. ⌜ r ≡ checkedOf number trace ⌝ }
-{
-    match number {
-        11 => Checked::Refused(Refusal::EmptyTrace(trace)),
-        12 => Checked::Refused(Refusal::Coordinate(trace)),
-        13 => Checked::Refused(Refusal::Timestamp(trace)),
-        14 => Checked::Refused(Refusal::PartlyTimed(trace)),
-        15 => Checked::Refused(Refusal::TimeOrder(trace)),
-        16 => Checked::Refused(Refusal::CoordinateSize(trace)),
-        _ => Checked::Accepted,
-    }
-}
-
-fn pack(s: Judge) -> Packed
-    ensures { λ r. ⌜ r ≡ packed s ⌝ }
-{
-    let first = s.first;
-    let far = s.far;
-    let times = s.times;
-    Packed {
-        marks: s.marks,
-        first: number_in(first),
-        first_trace: trace_in(first),
-        far: number_in(far),
-        far_trace: trace_in(far),
-        trace: s.trace,
-        left: s.left,
-        times: times,
-    }
-}
-
-fn unpack(p: Packed) -> Judge
-    ensures { λ r. ⌜ r ≡ unpacked p ⌝ }
-{
-    let times = p.times;
-    Judge {
-        marks: p.marks,
-        first: checked_of(p.first, p.first_trace),
-        far: checked_of(p.far, p.far_trace),
-        trace: p.trace,
-        left: p.left,
-        times: times,
-    }
-}
-
-// Before the first record, in plain numbers.
-pub fn begin_all(lens: &[u32]) -> Packed
-    ensures { λ r. ⌜ r ≡ packed (started (now (lens .entry))) ⌝ }
-{
-    pack(start(lens))
-}
-
-// One record.
-pub fn take_one(p: Packed, f: FixRecord, lens: &[u32]) -> Packed
-    ensures { λ r. ⌜ r ≡ packed (stepped (now (lens .entry)) (unpacked p) f) ⌝ }
-{
-    pack(step(unpack(p), f, lens))
-}
-
 // 17, then 11 to 15, then 16.
-fn contents(s: Judge) -> Checked
+pub fn contents(s: Judge) -> Checked
     ensures { λ r. ⌜ r ≡ Judge·contents s ⌝ }
 {
     let first = s.first;
     let far = s.far;
     first_of(refuse_if(!s.marks, Refusal::TimeMark), first_of(first, far))
-}
-
-// How many numbers the work slice of floats has for n records: none where columns or marks, of these lengths, are too short.
-fn work_floats(n: usize, columns: usize, marks: usize, floats: usize) -> usize
-    ensures { λ r. ⌜ r ≡ workFloats n columns marks floats ⌝ }
-{
-    if columns / 3 < n {
-        return 0;
-    }
-    if marks < n {
-        return 0;
-    }
-    floats
-}
-
-// 1 to 10 of n records and the lent slices, by their lengths; then 11 to 17, by what the machine says of the records.
-fn checks(
-    model: Infostop,
-    s: Judge,
-    n: usize,
-    lens: &[u32],
-    labels: usize,
-    places: usize,
-    columns: usize,
-    marks: usize,
-    floats: usize,
-    words: usize,
-) -> Checked
-    ensures { λ r. ⌜ r ≡ checksFrom (model .config) s n (now (lens .entry)) labels places columns marks floats words ⌝ }
-{
-    let config = model.config;
-    let a = tracks::config::check_config(config);
-    if tracks::refusal::is_refused(a) {
-        return a;
-    }
-    let b = tracks::slices::check_lengths(lens, n, n, n, n, labels);
-    if tracks::refusal::is_refused(b) {
-        return b;
-    }
-    let c = tracks::slices::check_counts(lens.len(), n, places);
-    if tracks::refusal::is_refused(c) {
-        return c;
-    }
-    let d = tracks::slices::check_work(n, places, work_floats(n, columns, marks, floats), words);
-    if tracks::refusal::is_refused(d) {
-        return d;
-    }
-    contents(s)
-}
-
-pub fn decide(
-    model: Infostop,
-    p: Packed,
-    n: usize,
-    lens: &[u32],
-    labels: usize,
-    places: usize,
-    columns: usize,
-    marks: usize,
-    floats: usize,
-    words: usize,
-) -> Verdict
-    ensures { λ r. ⌜ r ≡ verdictBy (checksFrom (model .config) (unpacked p) n (now (lens .entry)) labels places columns marks floats words) n ⌝ }
-{
-    let s = unpack(p);
-    let checked = checks(
-        model,
-        s,
-        n,
-        lens,
-        labels,
-        places,
-        columns,
-        marks,
-        floats,
-        words,
-    );
-    if tracks::refusal::is_refused(checked) {
-        return Verdict {
-            checked: checked,
-            fixes: 0,
-        };
-    }
-    Verdict {
-        checked: checked,
-        fixes: n,
-    }
-}
-
-// How many records are to be taken apart.
-pub fn to_take(v: Verdict) -> usize
-    ensures { λ r. ⌜ r ≡ v .fixes ⌝ }
-{
-    v.fixes
 }

@@ -1,7 +1,7 @@
 // The fit over one lent slice of fix records. The records are judged first; those that pass all checks of tracks are taken apart into columns and
 // marks, two lent slices, which go to the fit over slices.
-use crate::judge::Packed;
-use crate::judge::Verdict;
+use crate::packed::Packed;
+use crate::verdict::Verdict;
 use distance::Point;
 use infostop::answer::Answer;
 use infostop::answer::Fit;
@@ -19,6 +19,8 @@ ghost use Rattle.records.specs.Judge.{started, run, packed};
 ghost use Rattle.records.specs.Steps.{putAt, setMark, markAt, steps, Ready};
 
 pub mod judge;
+pub mod packed;
+pub mod verdict;
 
 // A fix: a point, and a time where the mark is 1. The time beside another mark is not looked at.
 pub struct FixRecord {
@@ -68,10 +70,10 @@ fn judge_records(fixes: &[FixRecord], lens: &[u32]) -> Packed
     ensures { λ r. ⌜ r ≡ packed (run (now (lens .entry)) (started (now (lens .entry))) (now (fixes .entry))) ⌝ }
 {
     let n = fixes.len();
-    let mut p = judge::begin_all(lens);
+    let mut p = packed::begin_all(lens);
     let mut i: usize = 0;
     while i < n {
-        p = judge::take_one(p, fixes[i], lens);
+        p = packed::take_one(p, fixes[i], lens);
         i += 1;
     }
     p
@@ -160,7 +162,7 @@ pub fn fit_records(
         × (now (columns .exit) ≡ taken o (now (fixes .entry)) (now (columns .entry))) × (now (marks .exit) ≡ marked o (now (fixes .entry)) (now (marks .entry)))) ⌝ }
 {
     let p = judge_records(fixes, lens);
-    let v = judge::decide(
+    let v = verdict::decide(
         model,
         p,
         fixes.len(),
@@ -172,7 +174,7 @@ pub fn fit_records(
         floats.len(),
         words.len(),
     );
-    let n = judge::to_take(v);
+    let n = verdict::to_take(v);
     take_apart(fixes, n, columns, marks);
     fit_taken(
         model,

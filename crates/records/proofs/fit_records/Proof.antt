@@ -49,30 +49,30 @@ use Rattle.infostop.proofs.model.Infostop.Laws as InfostopL
 use Rattle.infostop.proofs.answer.Fit as FitT
 use Rattle.infostop.proofs.answer.Fit.Laws as FitL
 use Rattle.records.specs.declared.FixRecord.{FixRecord}
-use Rattle.records.specs.declared.judge.Packed.{Packed}
-use Rattle.records.specs.declared.judge.Verdict.{Verdict}
+use Rattle.records.specs.declared.packed.Packed.{Packed}
+use Rattle.records.specs.declared.verdict.Verdict.{Verdict}
 use Rattle.records.specs.Records.{fixOf, taken, marked, fitRecords}
 use Rattle.records.specs.Judge.{started, packed, unpacked, checksFrom, verdictBy, run as run-all}
 use Rattle.records.specs.Steps.{putAt, markAt, steps, Ready}
 use Rattle.records.proofs.Loan.{slice, Own, lend, back}
 use Rattle.records.proofs.Fits.{all-end}
 use Rattle.records.proofs.FixRecord as T
-use Rattle.records.proofs.judge.Packed as PT
-use Rattle.records.proofs.judge.Packed.Laws as PL
-use Rattle.records.proofs.judge.Verdict as VT
-use Rattle.records.proofs.judge.Verdict.Laws as VL
+use Rattle.records.proofs.packed.Packed as PT
+use Rattle.records.proofs.packed.Packed.Laws as PL
+use Rattle.records.proofs.verdict.Verdict as VT
+use Rattle.records.proofs.verdict.Verdict.Laws as VL
 use Rattle.records.proofs.judge_records as judges
 use Rattle.records.proofs.judge_records.Symbol as judges-def
 use Rattle.records.proofs.judge_records.Symbol.{name as #judges}
 use Rattle.records.proofs.judge_records.Met as judges-thm
-use Rattle.records.proofs.judge.decide as decides
-use Rattle.records.proofs.judge.decide.Symbol as decides-def
-use Rattle.records.proofs.judge.decide.Symbol.{name as #decides}
-use Rattle.records.proofs.judge.decide.Met as decides-thm
-use Rattle.records.proofs.judge.to_take as counts
-use Rattle.records.proofs.judge.to_take.Symbol as counts-def
-use Rattle.records.proofs.judge.to_take.Symbol.{name as #counts}
-use Rattle.records.proofs.judge.to_take.Met as counts-thm
+use Rattle.records.proofs.verdict.decide as decides
+use Rattle.records.proofs.verdict.decide.Symbol as decides-def
+use Rattle.records.proofs.verdict.decide.Symbol.{name as #decides}
+use Rattle.records.proofs.verdict.decide.Met as decides-thm
+use Rattle.records.proofs.verdict.to_take as counts
+use Rattle.records.proofs.verdict.to_take.Symbol as counts-def
+use Rattle.records.proofs.verdict.to_take.Symbol.{name as #counts}
+use Rattle.records.proofs.verdict.to_take.Met as counts-thm
 use Rattle.records.proofs.take_apart as take
 use Rattle.records.proofs.take_apart.Symbol as take-def
 use Rattle.records.proofs.take_apart.Symbol.{name as #take}
@@ -350,7 +350,7 @@ fit-records-spec 𝓤 H 𝓜 𝓖 𝓡 =
     entered 𝓤 H (tripleOf 𝓤 H (𝓖 .A) this.signature (this.spec 𝓤 H (𝓖 .A) (𝓜 .mem) (𝓡 .run))) (tables 𝓤 H 𝓜 𝓡 code.env .C) (tables 𝓤 H 𝓜 𝓡 code.env .Λ) #fit-records code.function (code.unfolded 𝓤 H 𝓜 𝓡)
     (fit-records-meets 𝓤 H (𝓖 .A) (givenOf 𝓤 H 𝓜 𝓖) (𝓜 .mem) (𝓡 .run) (tablesOf 𝓤 H 𝓜 (tables 𝓤 H 𝓜 𝓡 code.env))
     (cited 𝓤 H (Judges 𝓤 H (𝓖 .A) (𝓜 .mem) (𝓡 .run)) 𝓜 𝓡 code.env #judges judges-def.routine code.calls-records·judge-records (judges-thm.met 𝓤 H 𝓜 𝓖 𝓡))
-    (cited 𝓤 H (Decides 𝓤 H (𝓖 .A) (𝓜 .mem) (𝓡 .run)) 𝓜 𝓡 code.env #decides decides-def.routine code.calls-records·judge·decide (decides-thm.met 𝓤 H 𝓜 𝓖 𝓡))
-    (cited 𝓤 H (Counts 𝓤 H (𝓖 .A) (𝓜 .mem) (𝓡 .run)) 𝓜 𝓡 code.env #counts counts-def.routine code.calls-records·judge·to-take (counts-thm.met 𝓤 H 𝓜 𝓖 𝓡))
+    (cited 𝓤 H (Decides 𝓤 H (𝓖 .A) (𝓜 .mem) (𝓡 .run)) 𝓜 𝓡 code.env #decides decides-def.routine code.calls-records·verdict·decide (decides-thm.met 𝓤 H 𝓜 𝓖 𝓡))
+    (cited 𝓤 H (Counts 𝓤 H (𝓖 .A) (𝓜 .mem) (𝓡 .run)) 𝓜 𝓡 code.env #counts counts-def.routine code.calls-records·verdict·to-take (counts-thm.met 𝓤 H 𝓜 𝓖 𝓡))
     (cited 𝓤 H (Take 𝓤 H (𝓖 .A) (𝓜 .mem) (𝓡 .run)) 𝓜 𝓡 code.env #take take-def.routine code.calls-records·take-apart (take-thm.met 𝓤 H 𝓜 𝓖 𝓡))
     (cited 𝓤 H (Fits 𝓤 H (𝓖 .A) (𝓜 .mem) (𝓡 .run)) 𝓜 𝓡 code.env #fit fit-def.routine code.calls-records·fit-taken (fit-thm.met 𝓤 H 𝓜 𝓖 𝓡)))

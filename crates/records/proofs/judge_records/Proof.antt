@@ -50,22 +50,22 @@ use denote.Triple.Walked.{says, Stays, stay-none-slice, stay-slice, walkOf, goes
 use denote.Exit.{yes}
 use borrow.Author.Tests.{lt-ltb, le-ltb}
 use Rattle.records.specs.declared.FixRecord.{FixRecord}
-use Rattle.records.specs.declared.judge.Packed.{Packed}
+use Rattle.records.specs.declared.packed.Packed.{Packed}
 use Rattle.records.specs.Judge.{started, stepped, packed, unpacked, run as run-all}
 use Rattle.records.specs.Steps.{noRecord}
 use Rattle.records.proofs.Packing.{after, after-none, after-more, after-all}
 use Rattle.records.proofs.FixRecord as T
 use Rattle.records.proofs.FixRecord.Laws as T′
-use Rattle.records.proofs.judge.Packed as PT
-use Rattle.records.proofs.judge.Packed.Laws as PL
-use Rattle.records.proofs.judge.begin_all as start
-use Rattle.records.proofs.judge.begin_all.Symbol as start-def
-use Rattle.records.proofs.judge.begin_all.Symbol.{name as #start}
-use Rattle.records.proofs.judge.begin_all.Met as start-thm
-use Rattle.records.proofs.judge.take_one as step
-use Rattle.records.proofs.judge.take_one.Symbol as step-def
-use Rattle.records.proofs.judge.take_one.Symbol.{name as #step}
-use Rattle.records.proofs.judge.take_one.Met as step-thm
+use Rattle.records.proofs.packed.Packed as PT
+use Rattle.records.proofs.packed.Packed.Laws as PL
+use Rattle.records.proofs.packed.begin_all as start
+use Rattle.records.proofs.packed.begin_all.Symbol as start-def
+use Rattle.records.proofs.packed.begin_all.Symbol.{name as #start}
+use Rattle.records.proofs.packed.begin_all.Met as start-thm
+use Rattle.records.proofs.packed.take_one as step
+use Rattle.records.proofs.packed.take_one.Symbol as step-def
+use Rattle.records.proofs.packed.take_one.Symbol.{name as #step}
+use Rattle.records.proofs.packed.take_one.Met as step-thm
 use Rattle.records.proofs.judge_records.Key.{name as #judge-records}
 use Rattle.records.proofs.judge_records as this
 use Rattle.records.proofs.judge_records.Statement as stated
@@ -297,5 +297,5 @@ unfolding code.routine tablesOf
 judge-records-spec 𝓤 H 𝓜 𝓖 𝓡 =
     entered 𝓤 H (tripleOf 𝓤 H (𝓖 .A) this.signature (this.spec 𝓤 H (𝓖 .A) (𝓜 .mem) (𝓡 .run))) (tables 𝓤 H 𝓜 𝓡 code.env .C) (tables 𝓤 H 𝓜 𝓡 code.env .Λ) #judge-records code.function (code.unfolded 𝓤 H 𝓜 𝓡)
     (judge-records-meets 𝓤 H (𝓖 .A) (givenOf 𝓤 H 𝓜 𝓖) (𝓜 .mem) (𝓡 .run) (tablesOf 𝓤 H 𝓜 (tables 𝓤 H 𝓜 𝓡 code.env))
-    (cited 𝓤 H (Start 𝓤 H (𝓖 .A) (𝓜 .mem) (𝓡 .run)) 𝓜 𝓡 code.env #start start-def.routine code.calls-records·judge·begin-all (start-thm.met 𝓤 H 𝓜 𝓖 𝓡))
-    (cited 𝓤 H (Step 𝓤 H (𝓖 .A) (𝓜 .mem) (𝓡 .run)) 𝓜 𝓡 code.env #step step-def.routine code.calls-records·judge·take-one (step-thm.met 𝓤 H 𝓜 𝓖 𝓡)))
+    (cited 𝓤 H (Start 𝓤 H (𝓖 .A) (𝓜 .mem) (𝓡 .run)) 𝓜 𝓡 code.env #start start-def.routine code.calls-records·packed·begin-all (start-thm.met 𝓤 H 𝓜 𝓖 𝓡))
+    (cited 𝓤 H (Step 𝓤 H (𝓖 .A) (𝓜 .mem) (𝓡 .run)) 𝓜 𝓡 code.env #step step-def.routine code.calls-records·packed·take-one (step-thm.met 𝓤 H 𝓜 𝓖 𝓡)))

@@ -1,8 +1,8 @@
--- `records::judge::pack` meets its contract.
+-- `records::packed::pack` meets its contract.
 use Rattle.records.specs.Judge.{packed}
 use borrow.Author.Needs.{needs}
-use Rattle.records.proofs.judge.pack.Statement.{statement}
-use Rattle.records.proofs.judge.pack.Tie as tie
+use Rattle.records.proofs.packed.pack.Statement.{statement}
+use Rattle.records.proofs.packed.pack.Tie as tie
 
 number-in-requires : tie.Need-number-in-requires
 number-in-requires c κs = search needs

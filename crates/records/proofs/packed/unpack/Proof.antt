@@ -1,8 +1,8 @@
--- `records::judge::unpack` meets its contract.
+-- `records::packed::unpack` meets its contract.
 use Rattle.records.specs.Judge.{unpacked}
 use borrow.Author.Needs.{needs}
-use Rattle.records.proofs.judge.unpack.Statement.{statement}
-use Rattle.records.proofs.judge.unpack.Tie as tie
+use Rattle.records.proofs.packed.unpack.Statement.{statement}
+use Rattle.records.proofs.packed.unpack.Tie as tie
 
 checked-of-requires : tie.Need-checked-of-requires
 checked-of-requires c κs = search needs

@@ -1,9 +1,9 @@
--- `records::judge::number_in` meets its contract.
+-- `records::packed::number_in` meets its contract.
 use mathlib.Core.Path.{sym, ap, _∙_}
 use Rattle.records.specs.Judge.{numberIn}
 use borrow.Author.Needs.{needs}
-use Rattle.records.proofs.judge.number_in.Statement.{statement}
-use Rattle.records.proofs.judge.number_in.Tie as tie
+use Rattle.records.proofs.packed.number_in.Statement.{statement}
+use Rattle.records.proofs.packed.number_in.Tie as tie
 
 enum-told : tie.Need-enum-told
 enum-told c = search needs

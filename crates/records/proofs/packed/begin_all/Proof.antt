@@ -1,9 +1,9 @@
--- `records::judge::begin_all` meets its contract.
+-- `records::packed::begin_all` meets its contract.
 use mathlib.Core.Path.{ap, _∙_}
 use Rattle.records.specs.Judge.{packed}
 use borrow.Author.Needs.{needs}
-use Rattle.records.proofs.judge.begin_all.Statement.{statement}
-use Rattle.records.proofs.judge.begin_all.Tie as tie
+use Rattle.records.proofs.packed.begin_all.Statement.{statement}
+use Rattle.records.proofs.packed.begin_all.Tie as tie
 
 start-requires : tie.Need-start-requires
 start-requires c κs = search needs

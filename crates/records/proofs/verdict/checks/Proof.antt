@@ -1,4 +1,4 @@
--- `records::judge::checks` meets its contract.
+-- `records::verdict::checks` meets its contract.
 use mathlib.Core.Path.{sym, ap, _∙_}
 use Rattle.tracks.specs.Checks.{inTurn}
 use Rattle.tracks.specs.Tracks.{checkWork}
@@ -6,8 +6,8 @@ use Rattle.tracks.proofs.Turns.{says, first-alone, stops, goes-on, accepts}
 use Rattle.tracks.proofs.Lengths.{counts-few}
 use Rattle.records.specs.Judge.{checksFrom}
 use borrow.Author.Needs.{needs}
-use Rattle.records.proofs.judge.checks.Statement.{statement}
-use Rattle.records.proofs.judge.checks.Tie as tie
+use Rattle.records.proofs.verdict.checks.Statement.{statement}
+use Rattle.records.proofs.verdict.checks.Tie as tie
 
 check-config-requires : tie.Need-check-config-requires
 check-config-requires c κs = search needs

@@ -1,9 +1,9 @@
--- `records::judge::decide` meets its contract.
+-- `records::verdict::decide` meets its contract.
 use Rattle.tracks.proofs.Turns.{says}
 use Rattle.records.specs.Judge.{verdictBy}
 use borrow.Author.Needs.{needs}
-use Rattle.records.proofs.judge.decide.Statement.{statement}
-use Rattle.records.proofs.judge.decide.Tie as tie
+use Rattle.records.proofs.verdict.decide.Statement.{statement}
+use Rattle.records.proofs.verdict.decide.Tie as tie
 
 unpack-requires : tie.Need-unpack-requires
 unpack-requires c κs = search needs

@@ -1,8 +1,8 @@
--- `records::judge::take_one` meets its contract.
+-- `records::packed::take_one` meets its contract.
 use mathlib.Core.Path.{_∙_}
 use borrow.Author.Needs.{needs}
-use Rattle.records.proofs.judge.take_one.Statement.{statement}
-use Rattle.records.proofs.judge.take_one.Tie as tie
+use Rattle.records.proofs.packed.take_one.Statement.{statement}
+use Rattle.records.proofs.packed.take_one.Tie as tie
 
 unpack-requires : tie.Need-unpack-requires
 unpack-requires c κs = search needs

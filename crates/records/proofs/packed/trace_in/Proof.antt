@@ -1,9 +1,9 @@
--- `records::judge::trace_in` meets its contract.
+-- `records::packed::trace_in` meets its contract.
 use mathlib.Core.Path.{sym, ap, _∙_}
 use Rattle.records.specs.Judge.{traceIn}
 use borrow.Author.Needs.{needs}
-use Rattle.records.proofs.judge.trace_in.Statement.{statement}
-use Rattle.records.proofs.judge.trace_in.Tie as tie
+use Rattle.records.proofs.packed.trace_in.Statement.{statement}
+use Rattle.records.proofs.packed.trace_in.Tie as tie
 
 enum-told : tie.Need-enum-told
 enum-told c = search needs
