@@ -1,13 +1,11 @@
 -- The checks 1 to 17 refuse with a number below 18.
 use mathlib.Core.Path.{_≡_, refl}
-use mathlib.Core.Bool.{Bool, true, false, not}
+use mathlib.Core.Bool.{Bool, true, false}
 use mathlib.Core.List.{List, [], _∷_}
 use Prim.Native.Nat.{ℕ, suc}
-use lib.Dec.{eqb, leb, ltb}
-use lib.ListN.{length}
-use lib.Ieee.{Float, le}
+use lib.Dec.{ltb}
+use lib.Ieee.{Float}
 use Rattle.stay.specs.Trace.{Fix, fixes}
-use Rattle.distance.specs.Limit.{inLimit}
 use Rattle.tracks.specs.declared.config.Config.{Config}
 use Rattle.tracks.specs.declared.refusal.Refusal.{Refusal}
 use Rattle.tracks.specs.declared.refusal.Refusal.the-variants.{R1, R2, MinStayingTime, MaxTimeBetween, TimeBounds, MinSize, NoTrace, Lengths, Counts, Work, EmptyTrace, Coordinate, Timestamp, PartlyTimed, TimeOrder, CoordinateSize, TimeMark}

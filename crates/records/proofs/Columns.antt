@@ -1,12 +1,10 @@
 -- The records taken apart: what all steps come to, and what the slices then hold.
 use mathlib.Core.Path.{_≡_, refl, sym, ap, ap₂, _∙_, subst}
-use mathlib.Core.Bool.{Bool, true, false, cond}
 use mathlib.Core.List.{List, [], _∷_, _++_, map}
 use Prim.Native.Nat.{ℕ, zero, suc, _+_, _*_, _<_, _≤_}
 use native.Mathlib.Nat.{not-suc-le-zero, le-of-suc-le-suc, zero-add}
 use native.Mathlib.Numerals.{add-one}
 use native.Mathlib.Omega.{arith}
-use lib.Dec.{ltb}
 use lib.ListN.{length, getD, set, take, drop, length-append, length-drop, length-map, length-set}
 use lib.Seq.{ext-getD, getD-set-same, getD-set-other, getD-take, getD-drop, length-take-le, take-add, drop-drop, drop-set-lt, take-at, take-all, drop-at}
 use lib.Ieee.{Float, nan}

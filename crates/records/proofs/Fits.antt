@@ -1,16 +1,16 @@
 -- The fit of records: its outcome by the verdict on them, what `fit_taken` promises of them, and how all ends.
 use mathlib.Core.Path.{_≡_, refl, sym, ap, _∙_, subst}
 use mathlib.Core.Bool.{Bool, true, false, cond}
-use mathlib.Core.List.{List, [], _∷_, _++_, map}
+use mathlib.Core.List.{List, map}
 use Prim.Native.Nat.{ℕ, zero, suc, _+_, _-_, _*_, _<_, _≤_}
 use native.Mathlib.Omega.{arith}
-use borrow.Author.Tests.{ltb-false, leb-true}
-use lib.Dec.{leb, ltb}
+use borrow.Author.Tests.{leb-true}
+use lib.Dec.{leb}
 use lib.IntN.{ℤ}
-use lib.ListN.{length, take, length-map}
+use lib.ListN.{length, take}
 use lib.Ieee.{Float}
 use Rattle.lists.specs.Lists.{overlay}
-use Rattle.lists.proofs.Tests.{clash, and-left, and-right}
+use Rattle.lists.proofs.Tests.{and-left, and-right}
 use Rattle.distance.specs.Distance.{euclidean}
 use Rattle.stay.specs.Trace.{Fix, fixes}
 use Rattle.tracks.specs.declared.config.Config.{Config}
@@ -18,11 +18,10 @@ use Rattle.tracks.specs.declared.refusal.Refusal.{Refusal}
 use Rattle.tracks.specs.declared.refusal.Checked.{Checked}
 use Rattle.tracks.specs.declared.refusal.Checked.the-variants.{Accepted, Refused}
 use Rattle.tracks.specs.Checks.{isRefused, firstOf}
-use Rattle.tracks.specs.Settings.{checkConfig}
-use Rattle.tracks.specs.Tracks.{traces, checkTracks}
+use Rattle.tracks.specs.Tracks.{traces}
 use Rattle.tracks.proofs.Turns.{first-both}
 use Rattle.tracks.proofs.Accepted.{tracks-accepted}
-use Rattle.fit.specs.Fit.{Outcome, refused, fitted, unlessRefused, fitTraces, fit}
+use Rattle.fit.specs.Fit.{Outcome, refused, unlessRefused, fit}
 use Rattle.infostop.specs.declared.model.Infostop.{Infostop}
 use Rattle.infostop.specs.declared.answer.Answer.the-variants as answer
 use Rattle.infostop.specs.declared.answer.Fit.{Fit}

@@ -1,7 +1,7 @@
 -- The machine that judges records one by one, as the code does, and the verdict on them. proofs/Judged.antt joins it to the checks of crate
 -- `tracks`. Definitions only.
 use Prim.Native.Nat.{ℕ, suc, _-_}
-use mathlib.Core.Bool.{Bool, true, false, _&&_, not, cond}
+use mathlib.Core.Bool.{true, _&&_, not, cond}
 use mathlib.Core.List.{List, [], _∷_}
 use lib.Dec.{eqb, leb, ltb}
 use lib.ListN.{length, getD}

@@ -40,7 +40,6 @@ use denote.Triple.Table.{entered, cited}
 use denote.Triple.Walked.{says, Stays, stay-none, stay-none-slice, gave-slice, walkOf, goes-none, goes-none-slice, goes-gave-slice, Walks, ends-at, walked, walk-meets}
 use denote.Exit.{yes}
 use Rattle.tracks.specs.Tracks.{traces}
-use Rattle.fit.specs.Fit.{Outcome}
 use Rattle.infostop.specs.declared.model.Infostop.{Infostop}
 use Rattle.infostop.specs.declared.answer.Fit.{Fit}
 use Rattle.infostop.specs.Ends.{Promised}

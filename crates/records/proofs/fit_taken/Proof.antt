@@ -1,6 +1,6 @@
 -- `records::fit_taken` meets its contract.
 use mathlib.Core.Path.{refl}
-use Rattle.records.proofs.Steps.{too-short, long-enough}
+use Rattle.records.proofs.Steps.{too-short}
 use Rattle.records.proofs.Fits.{promised-refused, never-short, never-few, promised-taken}
 use borrow.Author.Needs.{needs}
 use Rattle.records.proofs.fit_taken.Statement.{statement}

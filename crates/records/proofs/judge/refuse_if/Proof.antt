@@ -1,6 +1,5 @@
 -- `records::judge::refuse_if` meets its contract.
 use Rattle.tracks.specs.Checks.{refuseIf}
-use borrow.Author.Needs.{needs}
 use Rattle.records.proofs.judge.refuse_if.Statement.{statement}
 use Rattle.records.proofs.judge.refuse_if.Tie as tie
 

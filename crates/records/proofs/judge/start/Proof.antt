@@ -1,8 +1,5 @@
 -- `records::judge::start` meets its contract.
-use mathlib.Core.Path.{_≡_}
 use native.Mathlib.Omega.{arith}
-use Rattle.lists.proofs.Tests.{clash}
-use Rattle.records.specs.Judge.{started, blank}
 use Rattle.records.proofs.Judged.{start-none, start-some}
 use borrow.Author.Needs.{needs}
 use Rattle.records.proofs.judge.start.Statement.{statement}

@@ -1,5 +1,4 @@
 -- `records::judge::step` meets its contract.
-use mathlib.Core.Path.{sym, ap, _∙_}
 use borrow.Author.Tests.{eq-eqb, ne-eqb}
 use Rattle.records.specs.Judge.{stepped}
 use borrow.Author.Needs.{needs}

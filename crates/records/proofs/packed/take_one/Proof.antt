@@ -1,5 +1,4 @@
 -- `records::packed::take_one` meets its contract.
-use mathlib.Core.Path.{_∙_}
 use borrow.Author.Needs.{needs}
 use Rattle.records.proofs.packed.take_one.Statement.{statement}
 use Rattle.records.proofs.packed.take_one.Tie as tie

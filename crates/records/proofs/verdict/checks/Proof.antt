@@ -1,7 +1,6 @@
 -- `records::verdict::checks` meets its contract.
-use mathlib.Core.Path.{sym, ap, _∙_}
+use mathlib.Core.Path.{sym, _∙_}
 use Rattle.tracks.specs.Checks.{inTurn}
-use Rattle.tracks.specs.Tracks.{checkWork}
 use Rattle.tracks.proofs.Turns.{says, first-alone, stops, goes-on, accepts}
 use Rattle.tracks.proofs.Lengths.{counts-few}
 use Rattle.records.specs.Judge.{checksFrom}

@@ -1,7 +1,6 @@
 -- `records::verdict::work_floats` meets its contract.
 use Rattle.records.specs.Records.{workFloats}
 use Rattle.records.proofs.Steps.{too-short, long-enough, no-columns, no-marks, room}
-use borrow.Author.Needs.{needs}
 use Rattle.records.proofs.verdict.work_floats.Statement.{statement}
 use Rattle.records.proofs.verdict.work_floats.Tie as tie
 
