@@ -10,7 +10,7 @@ use lib.Dec.{eqb, leb, ltb}
 use lib.ListN.{length, take, drop, getD, length-map, drop-of-length-le}
 use lib.Seq.{drop-cons, length-take-le}
 use lib.Ieee.{Float}
-use Rattle.stay.specs.Trace.{Fix, timeOf, fixes, hasTime, timed}
+use Rattle.stay.specs.Trace.{Fix, timeOf, fixes, timed}
 use Rattle.tracks.specs.declared.config.Config.{Config}
 use Rattle.tracks.specs.declared.refusal.Refusal.{Refusal}
 use Rattle.tracks.specs.declared.refusal.Refusal.the-variants.{EmptyTrace, PartlyTimed, TimeOrder, TimeMark}
@@ -21,7 +21,7 @@ use Rattle.tracks.specs.Settings.{checkConfig}
 use Rattle.tracks.specs.Traces.{above, aboveFirst, inTimeOrder, untimed, partlyTimed, checkFix, checkTimes, checkTrace, checkFixSize, checkSize}
 use Rattle.tracks.specs.Columns.{readTime}
 use Rattle.tracks.specs.Tracks.{total, traces, checkLengths, checkCounts, checkWork, checkMark, checkContents, checkTracks}
-use Rattle.tracks.proofs.Columns.{as-read}
+use Rattle.tracks.proofs.Columns.{has-time, as-read}
 use Rattle.tracks.proofs.Turns.{first-alone}
 use Rattle.tracks.proofs.Lengths.{lengths-agree}
 use Rattle.records.specs.declared.FixRecord.{FixRecord}
@@ -61,14 +61,6 @@ pos zero h = absurd (h refl)
 pos (suc j) h = omega arith
 
 -- ---- the times of the open trace
-
-has-time : (m : ℕ) (t : Float) → hasTime (timeOf m t) ≡ eqb m 1
-unfolding hasTime timeOf
-has-time m t = go (eqb m 1)
-  where
-    go : (b : Bool) → hasTime (cond b (some t) none) ≡ b
-    go true = refl
-    go false = refl
 
 -- 14 and 15 of a trace that has the times t already, and the fixes ts to come.
 restTimes : ℕ → Times → List Fix → Checked

@@ -66,7 +66,7 @@ pub none-end : (ms : List ℕ) (i : ℕ) {b : Bool} → length ms ≤ i → none
 unfolding noneMarked
 none-end ms i h e = rw (drop-of-length-le ms {i = i} h) at e
 
-has-time : (m : ℕ) (t : Float) → hasTime (timeOf m t) ≡ eqb m 1
+pub has-time : (m : ℕ) (t : Float) → hasTime (timeOf m t) ≡ eqb m 1
 unfolding hasTime timeOf
 has-time m t = go (eqb m 1)
   where
