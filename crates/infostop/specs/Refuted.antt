@@ -31,7 +31,7 @@ use Rattle.cluster.specs.Cluster.{nodeNetwork}
 use Rattle.tracks.specs.declared.refusal.Refusal.{Refusal}
 use Rattle.tracks.specs.declared.refusal.Refusal.the-variants.{Lengths, TimeOrder, NoStop, TooManyPlaces}
 use Rattle.events.specs.FixLabels.{fixCount, allMedians, allLies}
-use Rattle.fit.specs.Demand.{minusOne, Given, isIn, labelIn, numbered, net, medians, distinct, Outside, LiesIn, Alone, linkedMedians, medianLabel, NeighbourGroup, change, Demand3}
+use Rattle.fit.specs.Demand.{minusOne, Given, isIn, labelIn, numbered, net, medians, distinct, Outside, LiesIn, Alone, linkedMedians, medianLabel, shownGroups, NeighbourGroup, change, Demand3}
 use Rattle.fit.specs.Fit.{Fitted, refused, fitted}
 use Rattle.fit.specs.Tries.{settings}
 use Rattle.infostop.specs.declared.model.Infostop.{Infostop}
@@ -255,6 +255,35 @@ two-linked = refl
 
 pub better-move : False (Demand3 betterMove)
 better-move d = true≢false (sym better ∙ d .settled refl 1 0 (omega (arith, two-linked)) (inl into-first))
+
+-- (d) Rest with a better move into a group of its own: standing at 0, 10, 20 and 30, the last with the label of the first two. If it leaves them the
+-- codelength falls by 0.174. All else of demand 3 holds.
+abbrev pub betterAlone : Given
+betterAlone = answered (stand 0 0 ∷ stand 10 0 ∷ stand 20 0 ∷ stand 30 0 ∷ []) (pos 0 ∷ pos 0 ∷ pos 0 ∷ pos 0 ∷ pos 1 ∷ pos 1 ∷ pos 0 ∷ pos 0 ∷ []) rest
+
+row-of-four : linkedMedians betterAlone ≡ 0 ∷ 1 ∷ 2 ∷ 3 ∷ []
+unfolding tracksComputed
+row-of-four = refl
+
+row-groups : shownGroups betterAlone ≡ 0 ∷ 0 ∷ 2 ∷ 0 ∷ []
+unfolding tracksComputed groupsComputed
+row-groups = refl
+
+better-out : lt (change betterAlone 3 4) (neg margin) ≡ true
+unfolding tracksComputed sumsComputed groupsComputed
+better-out = refl
+
+unused : (v : ℕ) → _≢_ {A = ℕ} (getD (0 ∷ 0 ∷ 2 ∷ 0 ∷ []) v 0) 4
+unused zero e = omega arith
+unused (suc zero) e = omega arith
+unused (suc (suc zero)) e = omega arith
+unused (suc (suc (suc zero))) e = omega arith
+unused (suc (suc (suc (suc v)))) e = omega arith
+
+pub better-alone : False (Demand3 betterAlone)
+better-alone d =
+    let few = ap length row-of-four in
+    true≢false (sym better-out ∙ d .settled refl 3 4 (omega arith) (inr (λ v h. subst (λ (z : List ℕ). getD z v 0 ≢ 4) (sym row-groups) (unused v))))
 
 -- ---- how a fit ends
 module _ (m : Infostop) (old : List ℤ) (r : Fit) (labels : List ℤ) where
