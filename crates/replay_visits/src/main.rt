@@ -6,6 +6,7 @@
 // medians, and the trace view of the labels 0, 1, 2 and so on. A line is the number and trace of the refusal, or `0 0` and the number of items; then
 // the output arrays of 8 items, of which a part is lent, and which hold 7, or a float of bits 7, before; after the visits 1 where the work slices are as they were, else 0, and
 // 2 where they are free. The view is the number of the refusal, and the part.
+use crate::read::Sizes;
 use infostop::model::Infostop;
 use libc::STDIN_FILENO;
 use libc::STDOUT_FILENO;
@@ -16,133 +17,7 @@ ghost use mathlib.Core.Path.{_≡_};
 ghost use Prim.Native.Nat.{_≤_};
 ghost use lib.ListN.{length};
 
-// How many traces are fitted, how many fixes they have, the trace asked for, the length of the output slices, and which slice is short.
-pub struct Sizes {
-    pub fitted: usize,
-    pub until: usize,
-    pub trace: usize,
-    pub room: usize,
-    pub short: u64,
-}
-
-// The settings of a case, its sizes and its number of traces, and the place after them.
-pub struct Head {
-    pub config: Config,
-    pub sizes: Sizes,
-    pub traces: usize,
-    pub next: usize,
-}
-
-fn read_head(text: &[u8], at: usize) -> Head {
-    let r1 = replay::number(text, at);
-    let r2 = replay::number(text, r1.next);
-    let single = replay::number(text, r2.next);
-    let stay = replay::number(text, single.next);
-    let gap = replay::number(text, stay.next);
-    let size = replay::number(text, gap.next);
-    let seed = replay::number(text, size.next);
-    let trace = replay::number(text, seed.next);
-    let room = replay::number(text, trace.next);
-    let short = replay::number(text, room.next);
-    let traces = replay::number(text, short.next);
-    let fitted = replay::number(text, traces.next);
-    let until = replay::number(text, fitted.next);
-    Head {
-        config: Config {
-            r1: replay::float_of_bits(r1.value),
-            r2: replay::float_of_bits(r2.value),
-            label_singleton: single.value == 1,
-            min_staying_time: replay::float_of_bits(stay.value),
-            max_time_between: replay::float_of_bits(gap.value),
-            min_size: size.value as usize,
-            seed: seed.value,
-        },
-        sizes: Sizes {
-            fitted: fitted.value as usize,
-            until: until.value as usize,
-            trace: trace.value as usize,
-            room: room.value as usize,
-            short: short.value,
-        },
-        traces: traces.value as usize,
-        next: until.next,
-    }
-}
-
-// The number of fixes so far, and the place after a length.
-pub struct Fixes {
-    pub count: usize,
-    pub next: usize,
-}
-
-// A length, 258 for every longer one.
-fn length_of(n: u64) -> u32 {
-    if n <= 257 { n as u32 } else { 258 }
-}
-
-// The sum, 258 for every larger one.
-fn sum(count: usize, len: u32) -> usize {
-    if count <= 257 {
-        if len <= 257 {
-            let s = count + len as usize;
-            if s <= 257 {
-                return s;
-            }
-        }
-    }
-    258
-}
-
-// Reads as many trace lengths as the slice is long, and adds them up.
-fn read_lens(text: &[u8], at: usize, lens: &mut [u32]) -> Fixes {
-    let mut count = 0;
-    let mut next = at;
-    let mut k = 0;
-    while k < lens.len() {
-        let n = replay::number(text, next);
-        let len = length_of(n.value);
-        lens[k] = len;
-        count = sum(count, len);
-        next = n.next;
-        k += 1;
-    }
-    Fixes {
-        count: count,
-        next: next,
-    }
-}
-
-fn mark_of(n: u64) -> u8 {
-    if n <= 255 { n as u8 } else { 255 }
-}
-
-// Reads as many fixes as the slices are long, and hands back the place after them.
-fn read_fixes(
-    text: &[u8],
-    at: usize,
-    xs: &mut [f64],
-    ys: &mut [f64],
-    times: &mut [f64],
-    marks: &mut [u8],
-) -> usize
-    requires { ⌜ (length (now ys) ≡ length (now xs)) × (length (now times) ≡ length (now xs)) × (length (now marks) ≡ length (now xs)) ⌝ }
-{
-    let mut next = at;
-    let mut i = 0;
-    while i < xs.len() {
-        let x = replay::number(text, next);
-        let y = replay::number(text, x.next);
-        let m = replay::number(text, y.next);
-        let t = replay::number(text, m.next);
-        xs[i] = replay::float_of_bits(x.value);
-        ys[i] = replay::float_of_bits(y.value);
-        marks[i] = mark_of(m.value);
-        times[i] = replay::float_of_bits(t.value);
-        next = t.next;
-        i += 1;
-    }
-    next
-}
+mod read;
 
 fn print_refusal(e: Refusal) {
     replay::print_number(tracks::refusal::number(e) as u64);
@@ -499,7 +374,7 @@ fn with_fixes(
 ) -> usize
     requires { ⌜ (length (now ys) ≡ length (now xs)) × (length (now times) ≡ length (now xs)) × (length (now marks) ≡ length (now xs)) × (length (now xs) ≤ 257) × (s .until ≤ length (now xs)) × (s .fitted ≤ length (now lens)) × (s .room ≤ 8) ⌝ }
 {
-    let next = read_fixes(text, at, xs, ys, times, marks);
+    let next = read::read_fixes(text, at, xs, ys, times, marks);
     answer(config, s, xs, ys, times, marks, lens);
     next
 }
@@ -529,7 +404,7 @@ fn with_room(text: &[u8], at: usize, config: Config, s: Sizes, lens: &[u32], n: 
 fn with_lens(text: &[u8], at: usize, config: Config, s: Sizes, lens: &mut [u32]) -> usize
     requires { ⌜ (s .fitted ≤ length (now lens)) × (s .room ≤ 8) ⌝ }
 {
-    let fixes = read_lens(text, at, lens);
+    let fixes = read::read_lens(text, at, lens);
     let n = fixes.count;
     if 257 < n {
         io::write_all(STDOUT_FILENO, b"too many fixes\n");
@@ -544,7 +419,7 @@ fn with_lens(text: &[u8], at: usize, config: Config, s: Sizes, lens: &mut [u32])
 
 // Answers the case at `at`, and hands back the place after it. A case for which there is no room is not answered.
 fn one_case(text: &[u8], at: usize) -> usize {
-    let h = read_head(text, at);
+    let h = read::read_head(text, at);
     let traces = h.traces;
     let s = h.sizes;
     if 257 < traces {

@@ -1,11 +1,11 @@
--- `replay_visits::read_lens` is safe and ends. Assumes nothing.
+-- `replay_visits::read::read_lens` is safe and ends. Assumes nothing.
 use mathlib.Core.Path.{_≡_}
 use Prim.Native.Nat.{_≤_, _-_}
 use native.Mathlib.Omega.{arith}
 use lib.ListN.{length, length-set}
 use borrow.Author.Needs.{needs}
-use Rattle.replay_visits.proofs.read_lens.Statement.{statement}
-use Rattle.replay_visits.proofs.read_lens.Tie as tie
+use Rattle.replay_visits.proofs.read.read_lens.Statement.{statement}
+use Rattle.replay_visits.proofs.read.read_lens.Tie as tie
 
 abbrev Inv-loop : tie.InvT-loop
 Inv-loop text at lens₀ count₀ next₀ k₀ lens count next k = (length lens ≡ length lens₀) × (k ≤ length lens₀)

@@ -1,11 +1,11 @@
--- `replay_visits::read_fixes` is safe and ends. Assumes nothing.
+-- `replay_visits::read::read_fixes` is safe and ends. Assumes nothing.
 use mathlib.Core.Path.{_≡_}
 use Prim.Native.Nat.{_≤_, _-_}
 use native.Mathlib.Omega.{arith}
 use lib.ListN.{length, length-set}
 use borrow.Author.Needs.{needs}
-use Rattle.replay_visits.proofs.read_fixes.Statement.{statement}
-use Rattle.replay_visits.proofs.read_fixes.Tie as tie
+use Rattle.replay_visits.proofs.read.read_fixes.Statement.{statement}
+use Rattle.replay_visits.proofs.read.read_fixes.Tie as tie
 
 abbrev Inv-loop : tie.InvT-loop
 Inv-loop text at xs₀ ys₀ times₀ marks₀ next₀ i₀ xs ys times marks next i = (length xs ≡ length xs₀) × (length ys ≡ length xs₀) × (length times ≡ length xs₀) × (length marks ≡ length xs₀) × (i ≤ length xs₀)
