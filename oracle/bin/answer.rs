@@ -127,7 +127,7 @@ fn grouping(n: &mut Numbers, out: &mut Line) {
     }
 }
 
-/// The labels of the fixes, the places with their labels, and the kept trial's mark and rounds.
+/// The labels of the fixes, the places with their labels, the kept trial's mark and rounds, and the label medians.
 fn put_fit(
     labels: Vec<Vec<i32>>,
     model: &Infostop,
@@ -144,11 +144,11 @@ fn put_fit(
     }
     let r = record::kept();
     out.put(r.mark).put(r.rounds);
-    Ok(())
+    put_medians(model, out)
 }
 
-/// The median of each label's places, in rising label.
-fn put_reports(model: &Infostop, out: &mut Line) -> Result<(), Error> {
+/// The number of labels, and the median of each label's places, in rising label.
+fn put_medians(model: &Infostop, out: &mut Line) -> Result<(), Error> {
     let mut medians: Vec<_> = model.label_medians()?.into_iter().collect();
     medians.sort_by_key(|m| m.0);
     out.put(medians.len());
@@ -187,32 +187,20 @@ fn fit_case(n: &mut Numbers) -> (Config, Vec<Vec<TimedPoint>>) {
     (config, traces)
 }
 
-/// Fits, and puts 0 0 and what is asked of the labels and the model, or the refusal.
-fn fitted(
-    n: &mut Numbers,
-    out: &mut Line,
-    put: fn(Vec<Vec<i32>>, &Infostop, &mut Line) -> Result<(), Error>,
-) {
+/// Fits, and puts 0 0 and the answer, or the refusal.
+fn fit(n: &mut Numbers, out: &mut Line) {
     let (config, traces) = fit_case(n);
     let run = || {
         let mut model = Infostop::from_config(config)?;
         record::clear();
         let labels = model.fit_predict_many(&traces)?;
         out.put(0).put(0);
-        put(labels, &model, out)
+        put_fit(labels, &model, out)
     };
     if let Err(e) = run() {
         let (number, trace) = refusal(&e);
         out.put(number).put(trace);
     }
-}
-
-fn fit(n: &mut Numbers, out: &mut Line) {
-    fitted(n, out, put_fit);
-}
-
-fn reports(n: &mut Numbers, out: &mut Line) {
-    fitted(n, out, |_, model, out| put_reports(model, out));
 }
 
 fn main() {
@@ -225,10 +213,7 @@ fn main() {
             Some("neighbors") if args.len() == 2 => neighbors,
             Some("infomap") if args.len() == 2 => grouping,
             Some("fit") if args.len() == 2 => fit,
-            Some("reports") if args.len() == 2 => reports,
-            _ => fail(
-                "usage: answer float|rng|stay|neighbors|infomap|fit|reports",
-            ),
+            _ => fail("usage: answer float|rng|stay|neighbors|infomap|fit"),
         };
     let mut numbers = Numbers::read();
     let cases = numbers.next();

@@ -806,10 +806,8 @@ fn main() {
             Some("stay") if args.len() == 2 => stay,
             Some("neighbors") if args.len() == 2 => neighbors,
             Some("infomap") if args.len() == 2 => infomap,
-            Some("fit" | "reports") if args.len() == 2 => fit,
-            _ => fail(
-                "usage: generate float|rng|stay|neighbors|infomap|fit|reports",
-            ),
+            Some("fit") if args.len() == 2 => fit,
+            _ => fail("usage: generate float|rng|stay|neighbors|infomap|fit"),
         };
     let cases = layer(&mut Random(20_261_115));
     println!("{}", cases.len());

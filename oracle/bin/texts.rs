@@ -249,6 +249,9 @@ fn further() -> Vec<Vec<u8>> {
     vec![
         include_bytes!("../../examples/line.txt").to_vec(),
         include_bytes!("../../examples/two-answers.txt").to_vec(),
+        include_bytes!("../../examples/timed.txt").to_vec(),
+        include_bytes!("../../examples/refused.txt").to_vec(),
+        include_bytes!("../../examples/unlabelled.txt").to_vec(),
         with("10 10 1 300 86400 -0 42", "0 0 0 -\n0 3 4 -\n"),
         with("10 10 1 300 86400 2 -0", "0 0 0 -\n0 3 4 -\n"),
         with("10 10 1 300 86400 2 42", "-0 0 0 -\n-0 3 4 -\n"),

@@ -20,17 +20,19 @@ use Rattle.codelength.specs.Codelength.{fromPartition}
 use Rattle.scan.specs.Scan.{margin, isolate, move, nextFreeModule}
 use Rattle.optimize.specs.Rounds.{optimizePartition}
 use Rattle.infomap.specs.Infomap.{rest, keptGrouping, runInfomap, relabelDense}
-use Rattle.neighbors.specs.Places.{Place, stayCount}
-use Rattle.neighbors.specs.Links.{Metric, link, linked, nodes}
+use Rattle.neighbors.specs.Places.{Place}
+use Rattle.neighbors.specs.StepsPlaces.{stayCount}
+use Rattle.distance.specs.Distance.{Metric}
+use Rattle.neighbors.specs.Links.{link, linked, nodes}
 use Rattle.neighbors.proofs.Found.{Counted}
 use Rattle.neighbors.proofs.NodeList.{node-lt, node-linked, node-at, linked-link}
-use Rattle.whole.specs.Whole.{WholeWeights, Match, Alike}
-use Rattle.whole.proofs.Carried.{Carried, carried-afresh, carried-move, change-afresh}
-use Rattle.whole.proofs.Renumbered.{match-at, change-like}
-use Rattle.rest.specs.KeptTrial.{KeptQuiet}
-use Rattle.rest.proofs.Quiet.{trial-keeps, trial-no-moves}
-use Rattle.rest.proofs.Answers.{scan-move, scan-none, isolate-move, isolate-none, next-free-above}
-use Rattle.rest.proofs.Marks.{TrialAtRest, kept-rest, kept-at-rest}
+use Rattle.exact_sums.proofs.Whole.{WholeWeights, Match, Alike}
+use Rattle.exact_sums.proofs.Carried.{Carried, carried-afresh, carried-move, change-afresh}
+use Rattle.exact_sums.proofs.Renumbered.{match-at, change-like}
+use Rattle.run_laws.specs.KeptTrial.{KeptQuiet}
+use Rattle.run_laws.proofs.Quiet.{trial-keeps, trial-no-moves}
+use Rattle.run_laws.proofs.Answers.{scan-move, scan-none, isolate-move, isolate-none, next-free-above}
+use Rattle.run_laws.proofs.Marks.{TrialAtRest, kept-rest, kept-at-rest}
 use Rattle.cluster.specs.Cluster.{nodeNetwork, cluster}
 use Rattle.cluster.proofs.NodeNetwork.{w, node-whole, node-links, d-none, d-some}
 use Rattle.cluster.proofs.Relabelled.{relabel-alike}
@@ -74,7 +76,8 @@ module _ (net : Network) (w : ℕ → ℕ → ℕ) (ww : WholeWeights net w) whe
     into-new u h hu no-one =
         let un : u < length (net .strength) = subst (λ (m : ℕ). u < m) (c .long) hu in
         anew u (nextFreeModule part) h hu
-        (λ v p. ne-eqb (getD part v 0) (nextFreeModule part) (λ e. let a = next-free-above part v in omega arith) ∙ sym (ne-eqb (getD gs v 0) h (no-one v (subst (λ (m : ℕ). v < m) (sym (al .long)) p))))
+        (λ v p. ne-eqb (getD part v 0) (nextFreeModule part) (λ e. let a = next-free-above part v in omega arith) ∙ sym
+        (ne-eqb (getD gs v 0) h (no-one v (subst (λ (m : ℕ). v < m) (sym (al .long)) p))))
         (isolate-none net s u (trial-no-moves net x still .isolated u un))
 
 -- ---- the nodes

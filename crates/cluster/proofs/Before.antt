@@ -27,7 +27,9 @@ select-append f (x ∷ xs) b = go (f x) (select-append f xs b)
 from-split : (a m k : ℕ) → from a (m + k) ≡ from a m ++ from (a + m) k
 unfolding from
 from-split a zero k = ap (from a) (let e : 0 + k ≡ k = omega arith in e) ∙ ap (λ (z : ℕ). from z k) (let e : a ≡ a + 0 = omega arith in e)
-from-split a (suc m) k = ap (from a) (let e : suc m + k ≡ suc (m + k) = omega arith in e) ∙ ap (λ (l : List ℕ). a ∷ l) (from-split (suc a) m k ∙ ap (λ (z : ℕ). from (suc a) m ++ from z k) (let e : suc a + m ≡ a + suc m = omega arith in e))
+from-split a (suc m) k =
+    ap (from a) (let e : suc m + k ≡ suc (m + k) = omega arith in e) ∙ ap (λ (l : List ℕ). a ∷ l)
+    (from-split (suc a) m k ∙ ap (λ (z : ℕ). from (suc a) m ++ from z k) (let e : suc a + m ≡ a + suc m = omega arith in e))
 
 -- How many of the numbers before i f holds of.
 abbrev pub before : (ℕ → Bool) → ℕ → ℕ

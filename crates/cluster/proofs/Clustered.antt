@@ -11,18 +11,21 @@ use lib.Seq.{length-take-le}
 use lib.Ieee.{Float}
 use Rattle.lists.specs.Lists.{upto}
 use Rattle.neighbors.specs.Places.{Place}
-use Rattle.neighbors.specs.Links.{Metric, weight, linked, nodes, singles}
-use Rattle.neighbors.specs.Tables.{Tabled, Rising, Compacted, tableOf}
+use Rattle.distance.specs.Distance.{Metric}
+use Rattle.neighbors.specs.Links.{weight, linked, nodes, singles}
+use Rattle.neighbors.specs.StepsTables.{Tabled, RowNumbers, Compacted}
+use Rattle.neighbors.specs.Tables.{tableOf}
 use Rattle.neighbors.proofs.NodeTable.{node-table}
 use Rattle.map_state.specs.Network.{Network, network}
 use Rattle.map_state.specs.MapState.{lowest}
-use Rattle.map_state.specs.Arrays.{Rows}
+use Rattle.map_state.specs.Steps.{Rows}
 use Rattle.map_state.proofs.Leaders.{lowest-of}
-use Rattle.infomap.specs.Infomap.{Grouping, keptGrouping, runInfomap, relabelDense, groupingOf}
+use Rattle.infomap.specs.Infomap.{Grouping, keptGrouping, runInfomap, relabelDense}
+use Rattle.infomap.specs.Steps.{groupingOf}
 use Rattle.infomap.specs.declared.Kept.{Kept}
 use Rattle.infomap.proofs.Labels.{rank-le}
 use Rattle.cluster.specs.Cluster.{nodeNetwork, labelCount, placeLabel, labelsFrom, Clustering, cluster}
-use Rattle.cluster.specs.Slices.{clusteringOf}
+use Rattle.cluster.specs.StepsSlices.{clusteringOf}
 use Rattle.cluster.proofs.Relabelled.{relabel-at, relabel-long}
 use Rattle.cluster.proofs.LabelCount.{count-le}
 use Rattle.cluster.proofs.Walk.{labels-in-order}
@@ -59,7 +62,7 @@ labels-few r net seed e = subst (λ (l : List ℕ). labelCount l ≤ length l) (
 
 module _ (dist : Metric) (r2 : Float) (ps : List Place) where
   -- The compacted table is that of the nodes' network.
-  pub network-front : (n : ℕ) (ns : List ℕ) (t s : List Float) {m : ℕ} → ns ≡ nodes dist r2 ps → Rising n ns → Tabled (weight dist r2 ps) n t (n * n) → Compacted n ns t s (length ns * length ns)
+  pub network-front : (n : ℕ) (ns : List ℕ) (t s : List Float) {m : ℕ} → ns ≡ nodes dist r2 ps → RowNumbers n ns → Tabled (weight dist r2 ps) n t (n * n) → Compacted n ns t s (length ns * length ns)
       → length s ≡ n * n → m ≡ length ns → network (take (length ns * length ns - 0) s) (length ns) m ≡ nodeNetwork dist r2 ps
   unfolding nodeNetwork
   network-front n ns t s {m} e r w c l q =

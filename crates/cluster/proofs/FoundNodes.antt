@@ -10,11 +10,12 @@ use lib.Ieee.{Float}
 use Rattle.lists.specs.Lists.{overlay}
 use Rattle.lists.proofs.Overlay.{take-front}
 use Rattle.neighbors.specs.Places.{Place, placesIn}
-use Rattle.neighbors.specs.Links.{Metric, weight, nodes}
-use Rattle.neighbors.specs.Tables.{Tabled, rowsWithWeight, Rising}
+use Rattle.distance.specs.Distance.{Metric}
+use Rattle.neighbors.specs.Links.{weight, nodes}
+use Rattle.neighbors.specs.StepsTables.{Tabled, rowsWithWeight, RowNumbers}
 use Rattle.neighbors.proofs.Sighted.{length-placesIn}
 use Rattle.neighbors.proofs.NodeList.{nodes-few, nodes-rise, rows-nodes}
-use Rattle.cluster.specs.Slices.{PlaceTable}
+use Rattle.cluster.specs.StepsSlices.{PlaceTable}
 
 module _ (xs ys : List Float) (cs : List ℕ) (t : List Float) (p : PlaceTable xs ys cs t) where
   abbrev ps : List Place
@@ -36,8 +37,8 @@ module _ (xs ys : List Float) (cs : List ℕ) (t : List Float) (p : PlaceTable x
     pub found-few : k ≤ length xs
     found-few = let a = nodes-few dist r2 ps in let b = ap length rows-are in let d = places-long in omega (arith, f .0)
 
-    pub found-rise : Rising (length xs) (take (k - 0) l)
-    found-rise = rw found-nodes (subst (λ (n : ℕ). Rising n (nodes dist r2 ps)) places-long (nodes-rise dist r2 ps))
+    pub found-rise : RowNumbers (length xs) (take (k - 0) l)
+    found-rise = rw found-nodes (subst (λ (n : ℕ). RowNumbers n (nodes dist r2 ps)) places-long (nodes-rise dist r2 ps))
 
     pub found-long : (g : List ℕ) → length g ≡ length xs → length l ≡ length xs → length (take (k - 0) g) ≡ length (take (k - 0) l)
     found-long g a b = let d = found-few in rw (sub-zero k) (length-take-le k g (omega arith) ∙ sym (length-take-le k l (omega arith)))

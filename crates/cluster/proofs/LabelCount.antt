@@ -8,10 +8,8 @@ use native.Mathlib.Decide.{decLt}
 use native.Mathlib.Omega.{arith}
 use lib.ListN.{length, getD, drop, drop-of-length-le, List·getD-eq-default}
 use lib.Seq.{drop-cons}
+use Rattle.lists.proofs.Tests.{max-assoc}
 use Rattle.cluster.specs.Cluster.{labelCount}
-
-max-assoc : (a b c : ℕ) → max (max a b) c ≡ max a (max b c)
-max-assoc a b c = omega arith
 
 pub count-on : (gs : List ℕ) (m u : ℕ) {t m' : ℕ} → t ≡ max m (labelCount (drop u gs)) → u < length gs → m' ≡ max m (suc (getD gs u 0)) → t ≡ max m' (labelCount (drop (u + 1) gs))
 unfolding labelCount

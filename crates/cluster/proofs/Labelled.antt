@@ -10,27 +10,26 @@ use lib.Dec.{eqb}
 use lib.IntN.{ℤ, pos, negsuc, pos-ne-negsuc}
 use lib.ListN.{length, getD}
 use lib.Ieee.{Float}
-use Rattle.lists.specs.Lists.{Has, upto, member, position}
+use Rattle.lists.specs.Lists.{minusOne, Has, upto, member, position}
 use Rattle.lists.proofs.Tests.{clash}
 use Rattle.lists.proofs.Upto.{length-upto, getD-upto}
 use Rattle.lists.proofs.Members.{member-has, has-member, position-lt, getD-position, position-injective}
-use Rattle.neighbors.specs.Places.{Place, stayCount}
-use Rattle.neighbors.specs.Links.{Metric, linked, nodes, singles}
+use Rattle.neighbors.specs.Places.{Place}
+use Rattle.neighbors.specs.StepsPlaces.{stayCount}
+use Rattle.distance.specs.Distance.{Metric}
+use Rattle.neighbors.specs.Links.{linked, nodes, singles}
 use Rattle.neighbors.specs.Chains.{Chain, alone}
 use Rattle.neighbors.proofs.Found.{Counted}
 use Rattle.neighbors.proofs.NodeList.{node-lt, node-linked, linked-node, unlinked-single}
 use Rattle.infomap.specs.Infomap.{keptGrouping, runInfomap, relabelDense}
-use Rattle.rest.specs.Ways.{Joined}
-use Rattle.rest.proofs.Joined.{kept-joined}
+use Rattle.run_laws.proofs.Ways.{Joined}
+use Rattle.run_laws.proofs.Joined.{kept-joined}
 -- Named so that the example is checked before these lemmas.
 use Rattle.cluster.specs.Examples
 use Rattle.cluster.specs.Cluster.{nodeNetwork, labelCount, placeLabel, cluster}
 use Rattle.cluster.proofs.NodeNetwork.{node-size, node-both, way-chain}
 use Rattle.cluster.proofs.Relabelled.{relabel-long, relabel-alike}
 use Rattle.cluster.proofs.LabelCount.{label-lt}
-
-abbrev pub minusOne : ℤ
-minusOne = negsuc 0
 
 map-upto : (f : ℕ → ℤ) (d : ℤ) (n i : ℕ) → i < n → getD (map f (upto n)) i d ≡ f i
 map-upto f d n i h = at (upto n) i (subst (λ (z : ℕ). i < z) (sym (length-upto n)) h) ∙ ap f (getD-upto n i h)

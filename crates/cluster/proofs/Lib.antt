@@ -9,3 +9,5 @@ pub mod NoGap
 pub mod Clustered
 pub mod FoundNodes
 pub mod NoneLabelled
+pub mod FixLabels
+pub mod Lying

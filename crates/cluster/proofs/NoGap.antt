@@ -9,11 +9,13 @@ use borrow.Author.Tests.{eqb-true, not-true}
 use lib.IntN.{ℤ, pos, pos-ne-negsuc}
 use lib.ListN.{length, getD, length-map}
 use lib.Ieee.{Float}
-use Rattle.lists.specs.Lists.{Has, upto, position}
+use Rattle.lists.specs.Lists.{Has, upto, position, minusOne}
 use Rattle.lists.proofs.Members.{has-at, position-lt, select-true, select-position}
 use Rattle.lists.proofs.Upto.{length-upto}
-use Rattle.neighbors.specs.Places.{Place, stayCount}
-use Rattle.neighbors.specs.Links.{Metric, linked, nodes, singles}
+use Rattle.neighbors.specs.Places.{Place}
+use Rattle.neighbors.specs.StepsPlaces.{stayCount}
+use Rattle.distance.specs.Distance.{Metric}
+use Rattle.neighbors.specs.Links.{linked, nodes, singles}
 use Rattle.neighbors.proofs.Found.{Counted}
 use Rattle.neighbors.proofs.NodeList.{node-lt, linked-node, node-at, node-position, single-lt, unlinked-single}
 use Rattle.map_state.specs.MapState.{lowest, leads}
@@ -21,7 +23,7 @@ use Rattle.map_state.proofs.Leaders.{lowest-of}
 use Rattle.infomap.specs.Infomap.{rank, relabelDense}
 use Rattle.cluster.specs.Cluster.{labelCount, cluster, NoGap}
 use Rattle.cluster.proofs.Relabelled.{relabel-at, relabel-long}
-use Rattle.cluster.proofs.Labelled.{minusOne, labelOf, ls, part, part-long, labels-are, node-label, node-below, single-label, single-pos}
+use Rattle.cluster.proofs.Labelled.{labelOf, ls, part, part-long, labels-are, node-label, node-below, single-label, single-pos}
 
 -- ---- of nodes
 

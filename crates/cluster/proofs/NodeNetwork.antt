@@ -12,25 +12,28 @@ use lib.Dec.{ltb, lit≤}
 use lib.ListN.{length, getD, drop, length-map, length-drop}
 use lib.Seq.{ext-getD, getD-take, getD-drop, length-take-le}
 use lib.Ieee.{Float, nan, lt}
+use Rattle.lists.proofs.Maps.{getD-map}
 use Rattle.lists.specs.Lists.{Has, position}
-use Rattle.lists.specs.Sums.{sum}
+use Rattle.lists.proofs.Sums.{sum}
 use Rattle.lists.proofs.Members.{getD-position, position-lt}
 use Rattle.float.specs.Binary64.{zero64}
 use Rattle.float.proofs.Exact.{most}
-use Rattle.neighbors.specs.Places.{Place, stayCount}
-use Rattle.neighbors.specs.Links.{Metric, link, weight, wholeWeight, nodes}
+use Rattle.neighbors.specs.Places.{Place}
+use Rattle.neighbors.specs.StepsPlaces.{stayCount}
+use Rattle.distance.specs.Distance.{Metric}
+use Rattle.neighbors.specs.Links.{link, weight, nodes}
+use Rattle.neighbors.proofs.LinkWeights.{wholeWeight, weight-whole, whole-sym, whole-self, weight-above, linked-above, weights-few}
 use Rattle.neighbors.specs.Tables.{tableOf}
 use Rattle.neighbors.specs.Chains.{Chain, alone, step}
 use Rattle.neighbors.proofs.Cells.{row-before}
 use Rattle.neighbors.proofs.Found.{Counted}
 use Rattle.neighbors.proofs.Linked.{link-self, link-sym}
-use Rattle.neighbors.proofs.LinkWeights.{weight-whole, whole-sym, whole-self, weight-above, linked-above, weights-few}
 use Rattle.neighbors.proofs.NodeList.{node-lt, linked-node, link-linked, node-at, nodes-few}
 use Rattle.neighbors.proofs.NodeTable.{length-table, cell-table}
 use Rattle.map_state.specs.Network.{Network, rowAt, row}
-use Rattle.whole.specs.Whole.{wholes, WholeWeights}
-use Rattle.whole.proofs.WholeNetwork.{whole-network, whole-size, d-above, link-above, above, same}
-use Rattle.rest.specs.Ways.{BothWays, Way, end, go}
+use Rattle.exact_sums.proofs.Whole.{wholes, WholeWeights}
+use Rattle.exact_sums.proofs.WholeNetwork.{whole-network, whole-size, d-above, link-above, above, same}
+use Rattle.run_laws.proofs.Ways.{BothWays, Way, end, go}
 use Rattle.cluster.specs.Cluster.{nodeNetwork}
 
 map-wholes : (dist : Metric) (r2 : Float) (ps : List Place) (i : ℕ) (l : List ℕ) → map (weight dist r2 ps i) l ≡ wholes (length l) (λ v. wholeWeight dist r2 ps i (getD l v 0))
@@ -96,15 +99,10 @@ module _ (dist : Metric) (r2 : Float) (ps : List Place) (c : Counted ps) (few : 
   unfolding nodeNetwork
   row-is u h = same t (length ns) w rows small u ∙ row-of-table (weight dist r2 ps) ns u h
 
-  map-at : (f : ℕ → Float) (l : List ℕ) (v : ℕ) → v < length l → getD (map f l) v nan ≡ f (getD l v 0)
-  map-at f [] v q = absurd (omega arith)
-  map-at f (x ∷ xs) zero q = refl
-  map-at f (x ∷ xs) (suc v) q = map-at f xs v (omega arith)
-
   -- Nodes link where their places do.
   pub node-links : (u v : ℕ) → u < length ns → v < length ns → lt zero64 (getD (row net u) v nan) ≡ link dist r2 ps (getD ns u 0) (getD ns v 0)
   node-links u v h k =
-      ap (λ (r : List Float). lt zero64 (getD r v nan)) (row-is u h) ∙ ap (lt zero64) (map-at (weight dist r2 ps (getD ns u 0)) ns v k)
+      ap (λ (r : List Float). lt zero64 (getD r v nan)) (row-is u h) ∙ ap (lt zero64) (getD-map (weight dist r2 ps (getD ns u 0)) ns v 0 nan k)
       ∙ weight-above dist r2 ps (getD ns u 0) (getD ns v 0) c exact (in-places u h)
 
   pub node-both : BothWays net
@@ -151,8 +149,22 @@ module _ (dist : Metric) (r2 : Float) (ps : List Place) (c : Counted ps) (few : 
       at-v = getD-position j ns mj
 
       pick : Dec (u < v) → Dec (v < u) → (u : ℕ) × (v : ℕ) × (u < v) × (v < length ns) × (0 < w u v)
-      pick (yes p) q = (u, v, p, position-lt j ns mj, subst (λ (z : ℕ). 0 < wholeWeight dist r2 ps z (getD ns v 0)) (sym at-u) (subst (λ (z : ℕ). 0 < wholeWeight dist r2 ps i z) (sym at-v) (linked-above dist r2 ps i j c h e)))
-      pick (no p) (yes q) = (v, u, q, position-lt i ns mi, subst (λ (z : ℕ). 0 < wholeWeight dist r2 ps z (getD ns u 0)) (sym at-v) (subst (λ (z : ℕ). 0 < wholeWeight dist r2 ps j z) (sym at-u) (linked-above dist r2 ps j i c k e')))
+      pick (yes p) q = (
+        u,
+        v,
+        p,
+        position-lt j ns mj,
+        subst (λ (z : ℕ). 0 < wholeWeight dist r2 ps z (getD ns v 0)) (sym at-u)
+            (subst (λ (z : ℕ). 0 < wholeWeight dist r2 ps i z) (sym at-v) (linked-above dist r2 ps i j c h e)),
+      )
+      pick (no p) (yes q) = (
+        v,
+        u,
+        q,
+        position-lt i ns mi,
+        subst (λ (z : ℕ). 0 < wholeWeight dist r2 ps z (getD ns u 0)) (sym at-v)
+            (subst (λ (z : ℕ). 0 < wholeWeight dist r2 ps j z) (sym at-u) (linked-above dist r2 ps j i c k e')),
+      )
       pick (no p) (no q) =
           absurd (let s : u ≡ v = omega arith in
           true≢false (sym e ∙ subst (λ (z : ℕ). link dist r2 ps i z ≡ false) (sym at-u ∙ ap (λ (z : ℕ). getD ns z 0) s ∙ at-v) (link-self dist r2 ps i)))

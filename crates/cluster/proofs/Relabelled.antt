@@ -1,17 +1,18 @@
 -- Dense labels show the same groups as internal numbers.
-use mathlib.Core.Path.{_≡_, refl, sym, ap, _∙_, subst}
+use mathlib.Core.Path.{_≡_, sym, ap, _∙_, subst}
 use mathlib.Core.Bool.{Bool, true, false, cond}
-use mathlib.Core.List.{List, [], _∷_, map}
+use mathlib.Core.List.{List, map}
 use Prim.Native.Nat.{ℕ, zero, suc, _+_, _-_, _<_, _≤_}
 use native.Mathlib.Decide.{decLt}
 use native.Mathlib.Omega.{arith}
 use lib.ListN.{length, getD, length-map}
+use Rattle.lists.proofs.Maps.{getD-map}
 use Rattle.lists.proofs.Tests.{eqb-like}
 use Rattle.map_state.specs.MapState.{lowest, leads}
 use Rattle.map_state.proofs.Leaders.{lowest-of}
 use Rattle.map_state.proofs.Groups.{lowest-at, lowest-leads}
 use Rattle.infomap.specs.Infomap.{rank, relabelDense}
-use Rattle.whole.specs.Whole.{Alike}
+use Rattle.exact_sums.proofs.Whole.{Alike}
 
 rank-rises : (part : List ℕ) (a k : ℕ) → rank part a ≤ rank part (k + a)
 unfolding rank
@@ -56,14 +57,9 @@ same-group part v x h k e = go (decLt a b) (decLt b a)
         let bx = lowest-of part x k in
         sym (lowest-at (getD part v 0) part (omega arith)) ∙ ap (λ (z : ℕ). getD part z 0) s ∙ lowest-at (getD part x 0) part (omega arith)
 
-map-at : (f : ℕ → ℕ) (l : List ℕ) (v : ℕ) → v < length l → getD (map f l) v 0 ≡ f (getD l v 0)
-map-at f [] v h = absurd (omega arith)
-map-at f (x ∷ xs) zero h = refl
-map-at f (x ∷ xs) (suc v) h = map-at f xs v (omega arith)
-
 pub relabel-at : (part : List ℕ) (v : ℕ) → v < length part → getD (relabelDense part) v 0 ≡ rank part (lowest (getD part v 0) part)
 unfolding relabelDense
-relabel-at part v h = map-at (λ g. rank part (lowest g part)) part v h
+relabel-at part v h = getD-map (λ (g : ℕ). rank part (lowest g part)) part v 0 0 h
 
 pub relabel-long : (part : List ℕ) → length (relabelDense part) ≡ length part
 unfolding relabelDense

@@ -9,10 +9,11 @@ use lib.ListN.{length, getD}
 use lib.Ieee.{Float}
 use Rattle.lists.specs.Lists.{upto, member, position}
 use Rattle.neighbors.specs.Places.{Place}
-use Rattle.neighbors.specs.Links.{Metric, weight, nodes, singles}
+use Rattle.distance.specs.Distance.{Metric}
+use Rattle.neighbors.specs.Links.{weight, nodes, singles}
 use Rattle.neighbors.specs.Tables.{tableOf}
 use Rattle.map_state.specs.Network.{Network, network}
-use Rattle.infomap.specs.Infomap.{RunMark, Grouping, runInfomap}
+use Rattle.infomap.specs.Infomap.{RunMark, runInfomap}
 
 -- The network of the nodes: linked places in place order, with the weights of their links.
 unfoldable pub nodeNetwork : Metric → Float → List Place → Network

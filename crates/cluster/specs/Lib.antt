@@ -1,3 +1,5 @@
 pub mod Cluster
-pub mod Slices
+pub mod FixLabels
+pub mod StepsSlices
+pub mod Steps
 pub mod Examples

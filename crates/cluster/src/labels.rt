@@ -7,17 +7,11 @@ ghost use lib.IntN.{pos, negsuc};
 ghost use lib.ListN.{length, getD};
 ghost use Rattle.cluster.specs.Cluster.{labelCount, labelsFrom, noneLabelled};
 
-fn wide(x: u32) -> usize
-    ensures { λ r. ⌜ r ≡ x ⌝ }
-{
-    x as usize
-}
-
 // The larger of m and one above l.
 fn above(m: usize, l: u32) -> usize
     ensures { λ r. ⌜ r ≡ max m (suc l) ⌝ }
 {
-    let n = wide(l) + 1;
+    let n = lists::wide(l) + 1;
     if m < n {
         return n;
     }
@@ -42,7 +36,7 @@ fn is_node(nodes: &[u32], u: usize, i: usize) -> bool
     ensures { λ r. ⌜ r ≡ (ltb u (length (now (nodes .entry))) && eqb (getD (now (nodes .entry)) u 0) i) ⌝ }
 {
     if u < nodes.len() {
-        return wide(nodes[u]) == i;
+        return lists::wide(nodes[u]) == i;
     }
     false
 }

@@ -1,17 +1,16 @@
 // Labels of places from the kept grouping of the nodes.
 ghost use mathlib.Core.Path.{_≡_};
 ghost use Prim.Native.Nat.{_*_, _≤_};
-ghost use mathlib.Core.List.{List};
 ghost use lib.ListN.{length};
-ghost use lib.Ieee.{Float};
 ghost use Rattle.distance.specs.Distance.{euclidean};
-ghost use Rattle.neighbors.specs.Places.{Place, placesIn};
-ghost use Rattle.neighbors.specs.Links.{Metric, weight, nodes};
-ghost use Rattle.neighbors.specs.Tables.{Tabled, Rising};
+ghost use Rattle.neighbors.specs.Places.{placesIn};
+ghost use Rattle.neighbors.specs.Links.{nodes};
+ghost use Rattle.neighbors.specs.StepsTables.{RowNumbers};
 ghost use Rattle.cluster.specs.Cluster.{cluster};
-ghost use Rattle.cluster.specs.Slices.{clusteringOf, PlaceTable};
+ghost use Rattle.cluster.specs.StepsSlices.{RunSlices, ClusteredFrom, clusteringOf, PlaceTable};
 use infomap::Kept;
 
+pub mod fixes;
 pub mod labels;
 
 // Groups the linked places by their rows and columns of the table of all n, and labels the n places. `table` and `groups` are work.
@@ -24,8 +23,8 @@ fn group_and_label(
     seed: u64,
     labels: &mut [i32],
 ) -> Kept
-    requires { ⌜ (n ≤ 512) × (length (now table) ≡ n * n) × (length (now groups) ≡ length (now linked)) × (length (now labels) ≡ n) × (Rising n (now linked)) ⌝ }
-    ensures { λ r. ⌜ ((dist : Metric) (r2 : Float) (ps : List Place) → length ps ≡ n → Tabled (weight dist r2 ps) n (now (table .entry)) (n * n) → now (linked .entry) ≡ nodes dist r2 ps → clusteringOf (now (labels .exit)) r ≡ cluster dist r2 single seed ps) ⌝ }
+    requires { ⌜ (n ≤ 512) × (length (now table) ≡ n * n) × (length (now groups) ≡ length (now linked)) × (length (now labels) ≡ n) × (RowNumbers n (now linked)) ⌝ }
+    ensures { λ r. ⌜ ClusteredFrom n (now (table .entry)) (now (linked .entry)) single seed (now (labels .exit)) r ⌝ }
 {
     neighbors::nodes::compact(table, n, linked);
     let k = linked.len();
@@ -48,7 +47,7 @@ fn cluster_in(
     groups: &mut [u32],
     labels: &mut [i32],
 ) -> Kept
-    requires { ⌜ (PlaceTable (now xs) (now ys) (now counts) (now table)) × (length (now linked) ≡ length (now xs)) × (length (now groups) ≡ length (now xs)) × (length (now labels) ≡ length (now xs)) ⌝ }
+    requires { ⌜ RunSlices (now xs) (now ys) (now counts) (now table) (length (now linked)) (length (now groups)) (length (now labels)) ⌝ }
     ensures { λ r. ⌜ clusteringOf (now (labels .exit)) r ≡ cluster euclidean r2 single seed (placesIn (now (xs .entry)) (now (ys .entry)) (now (counts .entry))) ⌝ }
 {
     let n = xs.len();

@@ -1,4 +1,4 @@
--- How the loops of the sums fromPartition go on and end. Assumes nothing.
+-- How the loops of the sums fromPartition go on and end.
 use mathlib.Core.Path.{_≡_, sym, ap, _∙_}
 use mathlib.Core.Bool.{cond}
 use mathlib.Core.List.{List}
@@ -14,7 +14,7 @@ use Rattle.float.specs.Binary64.{add64, div64, zero64}
 use Rattle.float.specs.Ln.{plogp}
 use Rattle.map_state.specs.Network.{Network, row}
 use Rattle.map_state.specs.MapState.{lowest, leads, sumQ}
-use Rattle.map_state.specs.Arrays.{Firsts, stateOf, Sized}
+use Rattle.map_state.specs.Steps.{Firsts, stateOf}
 use Rattle.codelength.specs.Codelength.{addExit, exitFrom, Sums, addNode, addNodesFrom, moduleSums, sumsOf, addModule, termsFrom, terms, nodePlogpFrom, codelengthOf, codelength, fromPartition}
 use Rattle.map_state.proofs.Leaders.{firsts-of}
 use Rattle.codelength.specs.declared.Terms.{Terms}
@@ -82,7 +82,3 @@ codelength-is n part {e} {s} p q r z =
 pub from-partition-is : (n : Network) (part : List ℕ) {e s : List Float} {q : Float} → sumsOf e s ≡ moduleSums n part → q ≡ sumQ (n .d) part e → stateOf part e s q ≡ fromPartition n part
 unfolding fromPartition
 from-partition-is n part p r = rw r (ap (λ (x : Sums). stateOf part (x .exits) (x .strengths) (sumQ (n .d) part (x .exits))) p)
-
-pub sized-sums : (t : List Float) (m : ℕ) (s : List Float) (part first : List ℕ) (exit str exit' str' : List Float) → Sized t m s part first exit str → length exit' ≡ length exit → length str' ≡ length str → Sized t m s part first exit' str'
-sized-sums t m s part first exit str exit' str' z c d = record
-    { few = z .few; wide = z .wide; nodes = z .nodes; firsts = z .firsts; exit = c ∙ z .exit; sums = d ∙ z .sums; rows = z .rows }

@@ -1,1 +1,2 @@
 pub mod Codelength
+pub mod Steps

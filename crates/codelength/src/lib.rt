@@ -2,13 +2,13 @@
 //
 // The slices are those of crate `map_state`.
 ghost use mathlib.Core.Path.{_≡_};
-ghost use Prim.Native.Nat.{ℕ, _+_, _-_, _*_, _<_, _≤_};
+ghost use Prim.Native.Nat.{_+_, _-_, _*_, _<_};
 ghost use mathlib.Core.Bool.{cond};
-ghost use lib.ListN.{length, getD, replicate};
-ghost use lib.Ieee.{Float};
+ghost use lib.ListN.{length, replicate};
 ghost use Rattle.float.specs.Binary64.{zero64};
-ghost use Rattle.map_state.specs.Arrays.{netOf, stateOf, Firsts, Sized};
-ghost use Rattle.codelength.specs.Codelength.{addExit, exitFrom, addNode, moduleSums, fromPartition, addModule, terms, nodePlogpFrom, codelengthOf, codelength, sumsOf};
+ghost use Rattle.map_state.specs.Steps.{netOf, Firsts, Sized, AtNode};
+ghost use Rattle.codelength.specs.Codelength.{addExit, exitFrom, addModule, terms, nodePlogpFrom, codelengthOf};
+ghost use Rattle.codelength.specs.Steps.{NodeAdded, SumsMade, StateMade, Listed, LengthMade};
 
 // Sums over the groups: q, plogp(q), and plogp(p + q) - plogp(q).
 pub struct Terms {
@@ -64,10 +64,11 @@ fn add_node(
     strengths: &mut [f64],
     v: usize,
 )
-    requires { ⌜ (Sized (now table) stride (now strength) (now partition) (now first) (now exits) (now strengths)) × (v < length (now partition)) × (Firsts (now partition) (now first)) ⌝ }
-    ensures { λ _. ⌜ ((d : Float) → sumsOf (now (exits .exit)) (now (strengths .exit)) ≡ addNode (netOf (now (table .entry)) stride (now (strength .entry)) d) (now (partition .entry)) (sumsOf (now (exits .entry)) (now (strengths .entry))) v) ⌝ }
+    requires { ⌜ AtNode (now table) stride (now strength) (now partition) (now first) (now exits) (now strengths) v ⌝ }
+    ensures { λ _. ⌜ NodeAdded (now (table .entry)) stride (now (strength .entry)) (now (partition .entry)) (now (exits .entry)) (now (strengths .entry)) v
+        (now (exits .exit)) (now (strengths .exit)) ⌝ }
 {
-    let f = map_state::wide(first[v]);
+    let f = lists::wide(first[v]);
     let a = v * stride;
     let e = a + partition.len();
     let x = exit_weights(partition, &table[a..e], partition[v], exits[f]);
@@ -86,7 +87,7 @@ fn sum_modules(
     strengths: &mut [f64],
 )
     requires { ⌜ (Sized (now table) stride (now strength) (now partition) (now first) (now exits) (now strengths)) × (Firsts (now partition) (now first)) ⌝ }
-    ensures { λ _. ⌜ ((d : Float) → sumsOf (now (exits .exit)) (now (strengths .exit)) ≡ moduleSums (netOf (now (table .entry)) stride (now (strength .entry)) d) (now (partition .entry))) ⌝ }
+    ensures { λ _. ⌜ SumsMade (now (table .entry)) stride (now (strength .entry)) (now (partition .entry)) (now (exits .exit)) (now (strengths .exit)) ⌝ }
 {
     clear(exits);
     clear(strengths);
@@ -118,7 +119,7 @@ pub fn from_partition(
     strengths: &mut [f64],
 ) -> f64
     requires { ⌜ (Sized (now table) stride (now strength) (now partition) (now first) (now exits) (now strengths)) × (Firsts (now partition) (now first)) ⌝ }
-    ensures { λ r. ⌜ stateOf (now (partition .entry)) (now (exits .exit)) (now (strengths .exit)) r ≡ fromPartition (netOf (now (table .entry)) stride (now (strength .entry)) d) (now (partition .entry)) ⌝ }
+    ensures { λ r. ⌜ StateMade (netOf (now (table .entry)) stride (now (strength .entry)) d) (now (partition .entry)) (now (exits .exit)) (now (strengths .exit)) r ⌝ }
 {
     sum_modules(table, stride, strength, partition, first, exits, strengths);
     map_state::sum_q(partition, first, exits, d)
@@ -142,7 +143,7 @@ fn add_module(lead: bool, d: f64, t: Terms, e: f64, s: f64) -> Terms
 
 // The groups by lowest member.
 fn sum_terms(partition: &[u32], first: &[u32], exits: &[f64], strengths: &[f64], d: f64) -> Terms
-    requires { ⌜ (length (now first) ≡ length (now partition)) × (length (now exits) ≡ length (now partition)) × (length (now strengths) ≡ length (now partition)) × Firsts (now partition) (now first) ⌝ }
+    requires { ⌜ Listed (now partition) (now first) (now exits) (now strengths) ⌝ }
     ensures { λ r. ⌜ r ≡ terms d (now (partition .entry)) (now (exits .entry)) (now (strengths .entry)) ⌝ }
 {
     let mut t = Terms {
@@ -152,7 +153,7 @@ fn sum_terms(partition: &[u32], first: &[u32], exits: &[f64], strengths: &[f64],
     };
     let mut v = 0;
     while v < partition.len() {
-        t = add_module(map_state::wide(first[v]) == v, d, t, exits[v], strengths[v]);
+        t = add_module(lists::wide(first[v]) == v, d, t, exits[v], strengths[v]);
         v += 1;
     }
     t
@@ -188,7 +189,7 @@ pub fn map_equation(
     strengths: &mut [f64],
 ) -> f64
     requires { ⌜ (Sized (now table) stride (now strength) (now partition) (now first) (now exits) (now strengths)) × (Firsts (now partition) (now first)) ⌝ }
-    ensures { λ r. ⌜ (r ≡ codelength (netOf (now (table .entry)) stride (now (strength .entry)) d) (now (partition .entry))) × (sumsOf (now (exits .exit)) (now (strengths .exit)) ≡ moduleSums (netOf (now (table .entry)) stride (now (strength .entry)) d) (now (partition .entry))) ⌝ }
+    ensures { λ r. ⌜ LengthMade (netOf (now (table .entry)) stride (now (strength .entry)) d) (now (partition .entry)) (now (exits .exit)) (now (strengths .exit)) r ⌝ }
 {
     sum_modules(table, stride, strength, partition, first, exits, strengths);
     let t = sum_terms(partition, first, exits, strengths, d);

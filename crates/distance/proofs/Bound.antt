@@ -1,5 +1,5 @@
 -- The distance of two points within the limit is finite and at most 3×10^9: it is at most that of two opposite corners
--- of the square of such points, and that one is worked out. Assumes nothing.
+-- of the square of such points, and that one is worked out.
 use mathlib.Core.Path.{_≡_}
 use Prim.Native.Nat.{ℕ, _*_}
 use native.Mathlib.Nat.{le-trans, le-of-eq, mul-one, mul-right-comm, mul-le-mul-right, le-of-mul-le-mul-right}

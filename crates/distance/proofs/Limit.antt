@@ -1,4 +1,4 @@
--- The limit against a float: two comparisons tell whether a coordinate is within it. Assumes nothing.
+-- The limit against a float: two comparisons tell whether a coordinate is within it.
 use mathlib.Core.Path.{_≡_, refl, sym, ap, _∙_}
 use Prim.Native.Nat.{ℕ, _+_, _*_, _<_}
 use native.Mathlib.Omega.{arith}

@@ -1,17 +1,17 @@
--- The sizes of binary64 values: every operation here takes arguments of larger size to a result of larger size. Assumes nothing.
+-- The sizes of binary64 values: every operation here takes arguments of larger size to a result of larger size.
 use mathlib.Core.Path.{_≡_, refl, sym, subst}
 use Prim.Native.Nat.{ℕ, zero, suc, _+_, _-_, _*_, _/_, _%_, _^_, _≤_, _<_, compare}
 use native.Mathlib.Nat.{mul-le-mul, mul-le-mul-right, mul-pos}
 use native.Mathlib.Omega.{arith}
 use mathlib.Core.Bool.{Bool, true, false, _&&_, _||_, Bool·beq, cond}
 use borrow.Author.Tests.{ltb-true, ltb-false, leb-true, leb-false, eqb-true, eqb-false}
-use lib.Dec.{T, leb, ltb, eqb, leb→le}
+use lib.Dec.{T, leb, ltb, eqb}
 use lib.Ieee.{Float, nan, inf, fin, Format, binary64, prec, emax, low, up, down, unlike, size, nearest, odd, units, round, sum, add, sub, mul, neg, lt, le, eq}
 use lib.Ieee.Fits.{down-pos}
 use lib.Ieee.Order.{round-mono, le-of-values}
 use lib.Ieee.Scale.{finite}
 use Rattle.float.specs.Root.{isqrt, rootUnits, root}
-use Rattle.float.proofs.Monotone.{nonneg, drop, kept, root-mono, root-units}
+use Rattle.float.proofs.Monotone.{nonneg, test-le, drop, keptDigits, root-mono, root-units}
 
 -- x without its sign
 abbrev pub abs : Float → Float
@@ -93,9 +93,6 @@ at-most a b = go (leb a b) (ltb a b) (eqb a b) refl refl refl
         let v = eqb-true a b r in
         absurd (omega arith)
     go false false false p q r = refl
-
-test-le : (a b : ℕ) → T (ltb a b || (eqb a b && true)) → a ≤ b
-test-le a b t = leb→le a b (subst T (at-most a b) t)
 
 pub le-under : (x y : Float) → T (nonneg x) → T (nonneg y) → T (finite y) → T (le x y) → Under x y
 unfolding le lt eq
@@ -238,7 +235,7 @@ add-nonneg (fin false m i) (fin false n j) X Y h k p q = round-nonneg binary64 (
 
 units-root-nonneg : (f : Format) (n : ℕ) → T (nonneg (rootUnits f n))
 units-root-nonneg f n =
-    subst (λ (z : Float). T (nonneg z)) (sym (root-units f n)) (units-nonneg f (kept n (isqrt n / 2 ^ drop f n) (drop f n)) (drop f n))
+    subst (λ (z : Float). T (nonneg z)) (sym (root-units f n)) (units-nonneg f (keptDigits n (isqrt n / 2 ^ drop f n) (drop f n)) (drop f n))
 
 root-nonneg : (x X : Float) → Under x X → T (nonneg x) → T (nonneg (root binary64 x))
 unfolding root

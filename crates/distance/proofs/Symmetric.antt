@@ -1,4 +1,4 @@
--- The distance is symmetric: the differences agree in size, and so their squares agree. Assumes nothing.
+-- The distance is symmetric: the differences agree in size, and so their squares agree.
 use mathlib.Core.Path.{_≡_, refl, sym, ap, ap₂, _∙_}
 use Prim.Native.Nat.{ℕ, _+_, _-_, _*_}
 use native.Mathlib.Nat.{add-comm, mul-comm}

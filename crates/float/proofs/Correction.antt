@@ -1,4 +1,4 @@
--- The root from a number at or below it: the square in two parts (`parts`), q steps at once (`steps`), and where to stop (`ends`). Assumes nothing.
+-- The root from a number at or below it: the square in two parts (`parts`), q steps at once (`steps`), and where to stop (`ends`).
 use mathlib.Core.Path.{_≡_, refl, ap, _∙_}
 use mathlib.Core.Bool.{Bool, true, false}
 use Prim.Native.Nat.{ℕ, _+_, _-_, _*_, _/_, _%_, _^_, _≤_, _<_}
@@ -6,7 +6,7 @@ use native.Mathlib.Nat.{mul-le-mul, div-add-mod', mod-lt}
 use native.Mathlib.Omega.{arith}
 use lib.Dec.{ltb}
 use borrow.Author.Tests.{ltb-true, ltb-false}
-use Rattle.float.specs.Parts.{Rooted}
+use Rattle.float.specs.Steps.{Rooted}
 
 -- two halves of 27 digits
 pub product : {a b : ℕ} → a < 134217728 → b < 134217728 → a * b ≤ 134217727 * 134217727

@@ -1,7 +1,7 @@
 -- Sums and differences of floats that are whole numbers. A sum of two whole numbers is that whole number, rounded once (`add-like`, `add-fall`, `add-under`, `add-rise`,
 -- `add-sink`); whole numbers of size up to 2 ^ 53 are held, so their sums and differences of that size are exact (`whole-add`, `whole-sub`, `whole-difference`). A difference of equal numbers is
 -- +0.0, and -0.0 comes only from two negative zeros. `add-minus-minus` and `add-plus-minus` are the changes of an exit weight by a move. The order of whole floats is that of
--- the numbers (`whole-lt`, `whole-le`). Assumes nothing.
+-- the numbers (`whole-lt`, `whole-le`).
 use mathlib.Core.Path.{_≡_, refl, sym, ap, ap₂, _∙_}
 use Prim.Native.Nat.{ℕ, suc, _+_, _-_, _*_, _^_, _≤_, _<_}
 use native.Mathlib.Nat.{mul-pos, zero-lt-suc, mul-one, mul-assoc, mul-comm, add-mul, mul-le-mul-right, not-le-of-lt, mul-lt-mul-of-pos-right, mul-sub, lt-of-mul-lt-mul-right}

@@ -1,4 +1,4 @@
--- How the k and m of `ln` are read off the bits of p (`ln-low`, `ln-high`). What they are is in `proofs/Split.antt`. Assumes nothing.
+-- How the k and m of `ln` are read off the bits of p (`ln-low`, `ln-high`). What they are is in `proofs/Split.antt`.
 use mathlib.Core.Path.{_≡_, refl, sym, ap, _∙_, subst}
 use Prim.Native.Nat.{ℕ, zero, suc, _+_, _-_, _*_, _/_, _%_, _^_, _≤_, _<_, zero-le}
 use native.Mathlib.Nat.{le-of-suc-le-suc, lt-irrefl, lt-of-not-le, lt-of-lt-of-le, lt-of-le-of-lt, le-trans, le-of-eq, mul-assoc, mul-right-comm, mul-one, mul-le-mul-right, mul-le-mul-left, mul-lt-mul-of-pos-right, mul-pos, zero-lt-suc, eq-of-mul-eq-mul-right, zero-mul}
@@ -15,7 +15,7 @@ use lib.Ieee.Fits.{and-i, and-l, and-r, down-pos}
 use lib.Ieee.Bits.{is-true, is-false, ofBits-fits}
 use Rattle.float.specs.Binary64.{sub64, whole64}
 use Rattle.float.specs.Ln.{lnOf, shift, ln}
-use Rattle.float.specs.Parts.{Unpacked, Normal}
+use Rattle.float.specs.Steps.{Unpacked, Normal}
 use Rattle.float.proofs.Rounding.{size-is}
 use Rattle.float.proofs.Unpacking.{of-normal}
 use Rattle.float.proofs.Packing.{value-unique}
@@ -69,7 +69,10 @@ digits-of n p = go (size n) (size-lt n) (λ j. size-reaches n j)
 -- n of d + 1 digits and m of 53, equal but for powers of two
 module _ (n d m : ℕ) (lo : 2 ^ d ≤ n) (hi : n < 2 ^ suc d) (full : 2 ^ 52 ≤ m) (short : m < 2 ^ 53) where
   level : (a b : ℕ) → n * 2 ^ a ≡ m * 2 ^ b → d + a ≡ 52 + b
-  level a b e = same-suc (d + a) (52 + b) (sym (size-is (n * 2 ^ a) (d + a) (at-least n d a lo) (at-most n d a hi)) ∙ ap size e ∙ size-is (m * 2 ^ b) (52 + b) (at-least m 52 b full) (at-most m 52 b short))
+  level a b e =
+      same-suc (d + a) (52 + b)
+      (sym (size-is (n * 2 ^ a) (d + a) (at-least n d a lo) (at-most n d a hi)) ∙ ap size e ∙ size-is (m * 2 ^ b) (52 + b) (at-least m 52 b full)
+      (at-most m 52 b short))
     where
       same-suc : (a b : ℕ) → suc a ≡ suc b → a ≡ b
       same-suc a b e = omega arith

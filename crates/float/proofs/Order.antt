@@ -1,6 +1,6 @@
 -- The order of floats. `lt` is a strict weak order: nothing is below itself (`lt-irrefl`), `lt-asym`, `lt-trans`, and a number y that is not NaN is not beside both of two
 -- that are in order (`lt-weak`). `le` is a total preorder off NaN: `le-refl`, `le-trans`, `le-total`; there it is the negation of `lt` the other way round (`le-is`).
--- Both are false where NaN stands (`lt-numbers`, `le-numbers`). Nothing here is about a format. Assumes nothing.
+-- Both are false where NaN stands (`lt-numbers`, `le-numbers`). Nothing here is about a format.
 use mathlib.Core.Path.{_≡_, refl, sym, ap, ap₂, _∙_, subst}
 use mathlib.Core.Logic.{_⊎_, inl, inr}
 use Prim.Native.Nat.{ℕ, zero, suc, _+_, _*_, _≤_, _<_}

@@ -1,5 +1,5 @@
 -- The laws of the root that other crates cite. It keeps the order of values at or above zero, -0.0 included (`root-monotone`); of a finite value at or above zero it is finite
--- and at or above zero (`root-finite`); it is a value of the format (`root-fits`), and the one nearest to the real root (`root-is-nearest`). Assumes nothing.
+-- and at or above zero (`root-finite`); it is a value of the format (`root-fits`), and the one nearest to the real root (`root-is-nearest`).
 use mathlib.Core.Path.{_≡_, refl, sym, ap, ap₂, _∙_, subst}
 use mathlib.Core.Logic.{_⊎_, inl, inr}
 use Prim.Native.Nat.{ℕ, zero, suc, _+_, _-_, _*_, _/_, _^_, _≤_, _<_, zero-le, compare}
@@ -18,8 +18,9 @@ use Rattle.float.specs.Binary64.{zero64, finite}
 use Rattle.float.specs.Root.{isqrt, rootUnits, root}
 use Rattle.float.proofs.Order.{true→T, below-level, finite-number, le-refl, le-trans}
 use Rattle.float.proofs.Packing.{root-value, fits-parts}
-use Rattle.float.proofs.Monotone.{nonneg, middle, drop, kept, root-mono, root-units}
-use Rattle.float.proofs.Nearest.{Nearer, root-nearest}
+use Rattle.float.proofs.Monotone.{nonneg, middle, drop, keptDigits, root-mono, root-units}
+use Rattle.float.specs.Meaning.{Nearer, NearestRoot}
+use Rattle.float.proofs.Nearest.{root-nearest}
 
 -- ---- -0.0 included: every value at or above zero
 
@@ -48,7 +49,10 @@ from-zero (inf true) h = absurd (false≢true h)
 from-zero (inf false) h = inl tt
 from-zero (fin false m e) h = inl tt
 from-zero (fin true zero e) h = inr (e, refl)
-from-zero (fin true (suc m) e) h = absurd (no (0 * 1 * down e) (suc m * up e * 1) (mul-pos (mul-pos (zero-lt-suc m) (up-pos e)) (zero-lt-suc 0)) (sym (below-level false true (0 * 1 * down e) (suc m * up e * 1)) ∙ h))
+from-zero (fin true (suc m) e) h =
+    absurd
+    (no (0 * 1 * down e) (suc m * up e * 1) (mul-pos (mul-pos (zero-lt-suc m) (up-pos e)) (zero-lt-suc 0))
+    (sym (below-level false true (0 * 1 * down e) (suc m * up e * 1)) ∙ h))
   where
     no : (a b : ℕ) → 0 < b → not (ltb 0 (b + a)) ≡ true → ⊥
     no a b p e = let z = nltb→le 0 (b + a) (true→T e) in omega arith
@@ -85,7 +89,9 @@ under-overflow nan f h = absurd (false≢true h)
 under-overflow (inf s) f h = absurd (false≢true h)
 under-overflow (fin true m e) f h = below-level true false (m * up e * 1) (1 * 2 ^ 1024 * down e)
 under-overflow (fin false m e) f h =
-    is-true _ (le-of-values (fin false m e) (fin false 1 (pos 1024)) (m * up e) (down e) (2 ^ 1024) 1 (down-pos e) (zero-lt-suc 0) (refl, refl) (refl, refl) (weak (m * up e) (2 ^ 1024 * down e) (small m e f)))
+    is-true _
+    (le-of-values (fin false m e) (fin false 1 (pos 1024)) (m * up e) (down e) (2 ^ 1024) 1 (down-pos e) (zero-lt-suc 0) (refl, refl)
+    (refl, refl) (weak (m * up e) (2 ^ 1024 * down e) (small m e f)))
   where
     weak : (a b : ℕ) → a < b → a * 1 ≤ b
     weak a b h = omega arith
@@ -97,8 +103,10 @@ under-overflow (fin false m e) f h =
 pub root-finite : (x : Float) → T (fits binary64 x) → finite x ≡ true → le zero64 x ≡ true → (finite (root binary64 x) ≡ true) × (le zero64 (root binary64 x) ≡ true)
 unfolding le lt eq finite ofBits
 root-finite x f h p =
-    let low : le zero64 (root binary64 x) ≡ true = ap (λ (z : Float). le z (root binary64 x)) (sym root-zero64) ∙ root-monotone zero64 x (le-refl zero64 (finite-number zero64 zero-finite)) p in
-    let high : le (root binary64 x) (fin false 1 (pos 512)) ≡ true = ap (λ (z : Float). le (root binary64 x) z) (sym root-overflow) ∙ root-monotone x (fin false 1 (pos 1024)) p (under-overflow x f h) in
+    let low : le zero64 (root binary64 x) ≡ true = ap (λ (z : Float). le z (root binary64 x)) (sym root-zero64) ∙ root-monotone zero64 x
+    (le-refl zero64 (finite-number zero64 zero-finite)) p in
+    let high : le (root binary64 x) (fin false 1 (pos 512)) ≡ true = ap (λ (z : Float). le (root binary64 x) z) (sym root-overflow) ∙ root-monotone x
+    (fin false 1 (pos 1024)) p (under-overflow x f h) in
     (between (root binary64 x) low high, low)
   where
     zero-finite : finite zero64 ≡ true
@@ -133,9 +141,9 @@ root-units-held : (n : ℕ) → T (fits binary64 (rootUnits binary64 n)) × T (n
 root-units-held n =
     let k = drop binary64 n in
     let q = isqrt n / 2 ^ k in
-    let few : kept n q k ≤ 2 ^ 53 = native.Mathlib.Nat.le-trans (nearest-le q (compare (4 * n) (middle q k))) (kept-lt 53 (isqrt n)) in (
-      subst (λ (v : Float). T (fits binary64 v)) (sym (root-units binary64 n)) (units-held (kept n q k) k few),
-      subst (λ (v : Float). T (nonneg v)) (sym (root-units binary64 n)) (units-unsigned (kept n q k) k),
+    let few : keptDigits n q k ≤ 2 ^ 53 = native.Mathlib.Nat.le-trans (nearest-le q (compare (4 * n) (middle q k))) (kept-lt 53 (isqrt n)) in (
+      subst (λ (v : Float). T (fits binary64 v)) (sym (root-units binary64 n)) (units-held (keptDigits n q k) k few),
+      subst (λ (v : Float). T (nonneg v)) (sym (root-units binary64 n)) (units-unsigned (keptDigits n q k) k),
     )
 
 pub root-fits : (x : Float) → T (fits binary64 x) → T (fits binary64 (root binary64 x))
@@ -177,7 +185,13 @@ cancel-places m c k l g h = eq-of-mul-eq-mul-right (2 ^ k) (pow-pos k) c (m * 2 
 digits-of-value : (y : Float) (c : ℕ) → T (fits binary64 y) → HasValue y false c (2 ^ 1074) → (t : ℕ) × (l : ℕ) × (t < 2 ^ 53) × (c ≡ t * 2 ^ l)
 digits-of-value nan c f h = absurd h
 digits-of-value (inf s) c f h = absurd h
-digits-of-value (fin s zero e) c f h = (0, 0, pow-pos 53, one-number (fin false zero e) c 0 (2 ^ 1074) (refl, h .1) (refl, ap (λ (x : ℕ). x * 2 ^ 1074) (zero-mul (up e)) ∙ zero-mul (2 ^ 1074) ∙ sym (zero-mul (down e))))
+digits-of-value (fin s zero e) c f h = (
+  0,
+  0,
+  pow-pos 53,
+  one-number (fin false zero e) c 0 (2 ^ 1074) (refl, h .1)
+      (refl, ap (λ (x : ℕ). x * 2 ^ 1074) (zero-mul (up e)) ∙ zero-mul (2 ^ 1074) ∙ sym (zero-mul (down e))),
+)
 digits-of-value (fin s (suc m) (pos k)) c f h =
     (suc m, k + 1074, fits-parts s m (pos k) f .0, sym (mul-one c) ∙ sym (h .1) ∙ mul-assoc (suc m) (2 ^ k) (2 ^ 1074) ∙ ap (λ (x : ℕ). suc m * x) (sym (pow-add 2 k 1074)))
 digits-of-value (fin s (suc m) (negsuc k)) c f h = let g = fits-parts s m (negsuc k) f in (suc m, 1074 - suc k, g .0, cancel-places (suc m) c (suc k) 1074 (pow-order (suc k) 1074 (g .1)) (h .1))
@@ -205,14 +219,16 @@ near-zero c = record { under = λ h. absurd (no c h); over = λ h. zero-le }
 
 -- x is a smallest values, so its real root is √(a * 2 ^ 1074) of them. Its root by the definition is b of them, and y is any value of the format, c of them, at or above zero: b is no
 -- further from the real root than c.
-root-nearest-value : (x y : Float) (a b c : ℕ) → T (fits binary64 y) → HasValue x false a (2 ^ 1074) → HasValue (root binary64 x) false b (2 ^ 1074) → HasValue y false c (2 ^ 1074) → Nearer (a * 2 ^ 1074) b c
+root-nearest-value :
+    (x y : Float) (a b c : ℕ) → T (fits binary64 y) → HasValue x false a (2 ^ 1074) → HasValue (root binary64 x) false b (2 ^ 1074) → HasValue y
+    false c (2 ^ 1074) → Nearer (a * 2 ^ 1074) b c
 root-nearest-value x y a b c f h r k = elim (eq-zero-or-pos a) [
   | inl z ↦
       subst (λ (n : ℕ). Nearer n b c) (sym (ap (λ (n : ℕ). n * 2 ^ 1074) z ∙ zero-mul (2 ^ 1074)))
       (subst (λ (u : ℕ). Nearer 0 u c) (sym (root-of-zero x b (subst (λ (n : ℕ). HasValue x false n (2 ^ 1074)) z h) r)) (near-zero c))
   | inr p ↦
       let n = a * 2 ^ 1074 in
-      let q = kept n (isqrt n / 2 ^ drop binary64 n) (drop binary64 n) in
+      let q = keptDigits n (isqrt n / 2 ^ drop binary64 n) (drop binary64 n) in
       let e : root binary64 x ≡ units binary64 false q (drop binary64 n) = root-value binary64 x a p h ∙ root-units binary64 n in
       let d = digits-of-value y c f k in
       subst (λ (u : ℕ). Nearer n u c) (sym (units-number q (drop binary64 n) b (subst (λ (v : Float). HasValue v false b (2 ^ 1074)) e r)))
@@ -228,14 +244,6 @@ in-units (fin true m e) f h p = absurd p
 in-units (fin false zero e) f h p = (0, (refl, ap (λ (x : ℕ). x * 2 ^ 1074) (zero-mul (up e)) ∙ zero-mul (2 ^ 1074) ∙ sym (zero-mul (down e))))
 in-units (fin false (suc m) (pos k)) f h p = (suc m * 2 ^ k * 2 ^ 1074, (refl, sym (mul-one (suc m * 2 ^ k * 2 ^ 1074))))
 in-units (fin false (suc m) (negsuc k)) f h p = (suc m * 2 ^ (1074 - suc k), (refl, in-places (suc m) (suc k) 1074 (pow-order (suc k) 1074 (fits-parts false m (negsuc k) f .1))))
-
--- r is the value of the format that is nearest to the real root of x: x is a smallest values and r is b, and no value y at or above zero is nearer.
-pub record NearestRoot (x r : Float) : Type 0 where
-  pub a : ℕ
-  pub b : ℕ
-  pub of-x : HasValue x false a (2 ^ 1074)
-  pub of-r : HasValue r false b (2 ^ 1074)
-  pub nearest : (y : Float) (c : ℕ) → T (fits binary64 y) → HasValue y false c (2 ^ 1074) → Nearer (a * 2 ^ 1074) b c
 
 unsigned-root : (x : Float) → T (nonneg x) → T (nonneg (root binary64 x))
 unfolding root
@@ -253,12 +261,9 @@ zero-value = (refl, refl)
 pub root-is-nearest : (x : Float) → T (fits binary64 x) → finite x ≡ true → T (nonneg x) → NearestRoot x (root binary64 x)
 root-is-nearest x f h p =
     let u = in-units x f h p in
-    let zero-le-x : le zero64 x ≡ true = is-true _ (le-of-values zero64 x 0 1 (u .0) (2 ^ 1074) (zero-lt-suc 0) (pow-pos 1074) zero-value (u .1) (native.Mathlib.Nat.le-trans (le-of-eq (zero-mul (2 ^ 1074))) zero-le)) in
+    let zero-le-x : le zero64 x ≡ true = is-true _
+    (le-of-values zero64 x 0 1 (u .0) (2 ^ 1074) (zero-lt-suc 0) (pow-pos 1074) zero-value (u .1)
+    (native.Mathlib.Nat.le-trans (le-of-eq (zero-mul (2 ^ 1074))) zero-le))
+    in
     let v = in-units (root binary64 x) (root-fits x f) (root-finite x f h zero-le-x .0) (unsigned-root x p) in
-    record {
-      a = u .0;
-      b = v .0;
-      of-x = u .1;
-      of-r = v .1;
-      nearest = λ y c g k. root-nearest-value x y (u .0) (v .0) c g (u .1) (v .1) k;
-    }
+    record { a = u .0; b = v .0; of-x = u .1; of-r = v .1; nearest = λ y c g k. root-nearest-value x y (u .0) (v .0) c g (u .1) (v .1) k }

@@ -1,5 +1,5 @@
 -- Bit patterns of binary64. A value that the format holds has one form, so two of them agree in their bits exactly when they are the same data (`same-bits`): 0.0 and -0.0 differ.
--- What code compares by `f64::to_bits` is `sameBits`. Assumes nothing.
+-- What code compares by `f64::to_bits` is `sameBits`.
 use mathlib.Core.Path.{_≡_, refl, sym, ap, _∙_}
 use mathlib.Core.Logic.{_↔_}
 use mathlib.Core.Bool.{true}

@@ -1,5 +1,5 @@
 -- The k and m of `ln` are those that docs/RULES.md names: p = 2 ^ k * m with 0.75 ≤ m < 1.5 (`split`), where m is a value of the format (`mantissa-is`, `mantissa-held`), and there are no others
--- (`split-unique`). Fractions are pairs of whole numbers: 2 ^ k is up k / down k. Assumes nothing.
+-- (`split-unique`). Fractions are pairs of whole numbers: 2 ^ k is up k / down k.
 use mathlib.Core.Path.{_≡_, refl, sym, ap, _∙_}
 use mathlib.Core.Logic.{_⊎_, inl, inr}
 use Prim.Native.Nat.{ℕ, suc, _+_, _-_, _*_, _^_, _≤_, _<_}
@@ -14,15 +14,10 @@ use lib.Ieee.{fin, binary64, up, down, minus, size, fits}
 use lib.Ieee.Digits.{minus-val, size-le}
 use lib.Ieee.Exact.{HasValue}
 use lib.Ieee.Fits.{up-pos, down-pos}
+use Rattle.float.specs.Meaning.{Split}
 use Rattle.float.specs.Ln.{shift, exponent, mantissa}
 use Rattle.float.proofs.Packing.{fits-parts}
 use Rattle.float.proofs.Logarithm.{digits-of, shift-low, shift-high, mantissa-fits}
-
--- n * 2 ^ e is 2 ^ k * (a / c), and a / c lies at or above 0.75 and below 1.5
-pub record Split (n : ℕ) (e k : ℤ) (a c : ℕ) : Type 0 where
-  pub same : n * up e * (down k * c) ≡ up k * a * down e
-  pub least : 3 * c ≤ 4 * a
-  pub most : 2 * a < 3 * c
 
 -- ---- there is one: the definition's
 

@@ -1,5 +1,6 @@
 pub mod Binary64
 pub mod Root
 pub mod Ln
+pub mod Meaning
+pub mod Steps
 pub mod Examples
-pub mod Parts

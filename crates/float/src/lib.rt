@@ -1,12 +1,12 @@
 // Of an f64: the correctly rounded square root, the rules' stand-in for the natural logarithm, plogp and the finite test.
 ghost use mathlib.Core.Path.{_≡_};
-ghost use Prim.Native.Nat.{ℕ, _+_, _-_, _*_, _/_, _^_, _≤_, _<_};
+ghost use Prim.Native.Nat.{_+_, _-_, _*_, _/_, _^_, _≤_, _<_};
 ghost use mathlib.Core.Bool.{false};
-ghost use lib.Ieee.{binary64, ofBits, odd};
+ghost use lib.Ieee.{binary64, ofBits};
 ghost use Rattle.float.specs.Binary64.{one64, whole64, div64, finite};
 ghost use Rattle.float.specs.Root.{root};
 ghost use Rattle.float.specs.Ln.{series, lnOf, ln, plogp};
-ghost use Rattle.float.specs.Parts.{Unpacked, Normal, Even, Rooted, Squared};
+ghost use Rattle.float.specs.Steps.{Unpacked, Normal, Even, Rooted, Squared};
 
 // The number m * 2^e.
 struct Scaled {

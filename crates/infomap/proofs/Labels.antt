@@ -1,4 +1,4 @@
--- The labels by first member, node by node. Assumes nothing.
+-- The labels by first member, node by node.
 use mathlib.Core.Path.{_≡_, refl, sym, ap, _∙_}
 use mathlib.Core.Bool.{Bool, true, false, cond}
 use mathlib.Core.List.{List, map}
@@ -7,10 +7,11 @@ use native.Mathlib.Numerals.{add-one}
 use native.Mathlib.Omega.{arith}
 use borrow.Author.Tests.{eqb-true, eqb-false}
 use lib.Dec.{eqb}
-use lib.ListN.{length, getD, length-map, List·getD-map}
+use lib.ListN.{length, getD, length-map}
 use lib.Seq.{ext-getD}
 use Rattle.map_state.specs.MapState.{lowest, leads}
-use Rattle.map_state.proofs.Leaders.{lowest-of, getD-any}
+use Rattle.lists.proofs.Maps.{getD-map}
+use Rattle.map_state.proofs.Leaders.{lowest-of}
 use Rattle.map_state.proofs.Groups.{lowest-at}
 use Rattle.infomap.specs.Infomap.{rank, relabelDense}
 
@@ -47,4 +48,4 @@ pub is-relabelled : (part labels : List ℕ) → length labels ≡ length part �
 unfolding relabelDense
 is-relabelled part labels e f =
     ext-getD 0 labels (map (λ g. rank part (lowest g part)) part) (e ∙ sym (length-map part (λ g. rank part (lowest g part))))
-    (λ k h. f k (omega arith) ∙ sym (getD-any (map (λ g. rank part (lowest g part)) part) k 0 (rank part (lowest 0 part)) (omega (arith, length-map part (λ g. rank part (lowest g part)))) ∙ List·getD-map (λ g. rank part (lowest g part)) part k 0))
+    (λ k h. f k (omega arith) ∙ sym (getD-map (λ (g : ℕ). rank part (lowest g part)) part k 0 0 (omega arith)))

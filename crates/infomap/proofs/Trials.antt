@@ -1,18 +1,18 @@
--- A trial kept or not, the trials one after the other, and the slices of the run. Assumes nothing.
+-- A trial kept or not, the trials one after the other, and the slices of the run.
 use mathlib.Core.Path.{_≡_, refl, sym, _∙_}
 use mathlib.Core.Bool.{Bool, true, false}
 use mathlib.Core.List.{List}
 use Prim.Native.Nat.{ℕ, zero, suc, _-_, _<_, _≤_}
 use native.Mathlib.Nat.{sub-zero}
 use native.Mathlib.Omega.{arith}
-use lib.ListN.{length, getD, take, drop}
-use lib.Seq.{ext-getD, length-take-le}
+use lib.ListN.{length, take, drop}
+use lib.Seq.{length-take-le}
 use lib.Ieee.{Float, lt}
 use Rattle.lists.specs.Lists.{upto}
 use Rattle.float.specs.Binary64.{mul64, zero64, two64}
 use Rattle.rng.specs.Rng.{seeded}
 use Rattle.map_state.specs.Network.{Network, strengthsOf, totalWeight, network}
-use Rattle.map_state.specs.Arrays.{netOf, Rows, Sized}
+use Rattle.map_state.specs.Steps.{netOf, Rows, Sized}
 use Rattle.map_state.proofs.Rows.{row-inside}
 use Rattle.codelength.specs.Codelength.{codelength}
 use Rattle.optimize.specs.Rounds.{Run, optimizePartition}
@@ -43,10 +43,6 @@ pub trials-end : (n : Network) (left x : ℕ) (k : Grouping) → left ≤ 0 → 
 unfolding trials
 trials-end n zero x k h = refl
 trials-end n (suc t) x k h = absurd (omega arith)
-
--- ---- a copy
-pub copied : (to from : List ℕ) → length to ≡ length from → ((k : ℕ) → k < length from → getD to k 0 ≡ getD from k 0) → to ≡ from
-copied to from e f = ext-getD 0 to from e (λ k h. f k (omega arith))
 
 -- ---- with and without links
 pub kept-links : (n : Network) (seed : ℕ) {k : Grouping} → lt zero64 (n .d) ≡ true → k ≡ bestOfThree n (seeded seed) → k ≡ keptGrouping n seed

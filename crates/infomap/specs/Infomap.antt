@@ -13,7 +13,6 @@ use Rattle.codelength.specs.Codelength.{codelength}
 use Rattle.optimize.specs.Rounds.{Run, optimizePartition}
 use Rattle.infomap.specs.declared.Mark.{Mark}
 use Rattle.infomap.specs.declared.Mark.the-variants.{Rest, Spent, NoneKept}
-use Rattle.infomap.specs.declared.Kept.{Kept}
 
 -- The rules' marks of a run.
 pub data RunMark : Type 0 where
@@ -74,7 +73,3 @@ unfoldable pub runInfomap : Network → ℕ → Grouping
 runInfomap net seed =
     let k = keptGrouping net seed in
     record { partition = relabelDense (k .partition); mark = k .mark; rounds = k .rounds; codelength = k .codelength }
-
--- What the code's slice and answer stand for.
-abbrev pub groupingOf : List ℕ → Kept → Grouping
-groupingOf part k = record { partition = part; mark = markOf (k .mark); rounds = k .rounds; codelength = k .codelength }

@@ -1,2 +1,3 @@
 pub mod Infomap
+pub mod Steps
 pub mod Facts

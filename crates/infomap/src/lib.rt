@@ -3,13 +3,13 @@
 // The slices are those of crate `map_state`; `best` holds the kept grouping. A `&mut` slice whose end a contract here does not state is work:
 // what it holds after the call is not read.
 ghost use mathlib.Core.Path.{_≡_};
-ghost use Prim.Native.Nat.{ℕ, _+_, _-_, _*_, _<_, _≤_};
+ghost use Prim.Native.Nat.{_+_, _-_, _*_, _<_, _≤_};
 ghost use mathlib.Core.Bool.{cond};
-ghost use lib.ListN.{length, getD};
+ghost use lib.ListN.{length};
 ghost use Rattle.map_state.specs.Network.{network};
-ghost use Rattle.map_state.specs.Arrays.{netOf, Firsts, Rows, Sized};
-ghost use Rattle.optimize.specs.Rounds.{Run};
-ghost use Rattle.infomap.specs.Infomap.{markOf, trialMark, keep, bestOfThree, keptGrouping, relabelDense, runInfomap, groupingOf};
+ghost use Rattle.map_state.specs.Steps.{netOf, Rows};
+ghost use Rattle.infomap.specs.Infomap.{markOf, trialMark, bestOfThree, keptGrouping, relabelDense, runInfomap};
+ghost use Rattle.infomap.specs.Steps.{groupingOf, KeepFrom, KeptOf, TrialsFrom, RunFrom};
 
 // The kept trial's last round moved nothing; it still did, as round 100; no trial was kept.
 pub enum Mark {
@@ -34,17 +34,6 @@ fn trial_mark(moved: bool) -> Mark
     Mark::Rest
 }
 
-fn copy(to: &mut [u32], from: &[u32])
-    requires { ⌜ length (now to) ≡ length (now from) ⌝ }
-    ensures { λ _. ⌜ now (to .exit) ≡ now (from .entry) ⌝ }
-{
-    let mut i = 0;
-    while i < from.len() {
-        to[i] = from[i];
-        i += 1;
-    }
-}
-
 // Keeps a trial that has left its partition and lowest members here, if its codelength is below that of k.
 fn keep(
     table: &[f64],
@@ -60,8 +49,9 @@ fn keep(
     rounds: u32,
     moved: bool,
 ) -> Kept
-    requires { ⌜ (Sized (now table) stride (now strength) (now partition) (now first) (now exits) (now strengths)) × (Firsts (now partition) (now first)) × (length (now best) ≡ length (now partition)) ⌝ }
-    ensures { λ r. ⌜ ((s : Run) → s .state .partition ≡ now (partition .entry) → s .rounds ≡ rounds → s .moved ≡ moved → groupingOf (now (best .exit)) r ≡ keep (netOf (now (table .entry)) stride (now (strength .entry)) d) (groupingOf (now (best .entry)) k) s) ⌝ }
+    requires { ⌜ KeepFrom (now table) stride (now strength) (now partition) (now first) (now exits) (now strengths) (now best) ⌝ }
+    ensures { λ r. ⌜ KeptOf (netOf (now (table .entry)) stride (now (strength .entry)) d) (now (partition .entry)) rounds moved
+        (groupingOf (now (best .entry)) k) (groupingOf (now (best .exit)) r) ⌝ }
 {
     let l = codelength::map_equation(
         table,
@@ -75,7 +65,7 @@ fn keep(
     );
     let limit = k.codelength;
     if l < limit {
-        copy(best, partition);
+        lists::copy(best, partition);
         return Kept {
             mark: trial_mark(moved),
             rounds: rounds,
@@ -99,7 +89,7 @@ fn best_of_three(
     best: &mut [u32],
     rng: u64,
 ) -> Kept
-    requires { ⌜ (Sized (now table) stride (now strength) (now partition) (now first) (now exits) (now strengths)) × (length (now order) ≡ length (now partition)) × (length (now best) ≡ length (now partition)) ⌝ }
+    requires { ⌜ TrialsFrom (now table) stride (now strength) (now partition) (now first) (now exits) (now strengths) (now order) (now best) ⌝ }
     ensures { λ r. ⌜ groupingOf (now (best .exit)) r ≡ bestOfThree (netOf (now (table .entry)) stride (now (strength .entry)) d) rng ⌝ }
 {
     rng::fill(best);
@@ -157,7 +147,7 @@ fn kept_grouping(
     best: &mut [u32],
     seed: u64,
 ) -> Kept
-    requires { ⌜ (Sized (now table) stride (now strength) (now partition) (now first) (now exits) (now strengths)) × (length (now order) ≡ length (now partition)) × (length (now best) ≡ length (now partition)) ⌝ }
+    requires { ⌜ TrialsFrom (now table) stride (now strength) (now partition) (now first) (now exits) (now strengths) (now order) (now best) ⌝ }
     ensures { λ r. ⌜ groupingOf (now (best .exit)) r ≡ keptGrouping (netOf (now (table .entry)) stride (now (strength .entry)) d) seed ⌝ }
 {
     if 0.0 < d {
@@ -222,8 +212,7 @@ fn run_in(
     labels: &mut [u32],
     seed: u64,
 ) -> Kept
-    requires { ⌜ (Sized (now table) stride (now strength) (now partition) (now first) (now exits) (now strengths)) × (length (now order) ≡ length (now partition))
-        × (length (now best) ≡ length (now partition)) × (length (now labels) ≡ length (now partition)) × (Rows (now table) stride (length (now partition))) ⌝ }
+    requires { ⌜ RunFrom (now table) stride (now strength) (now partition) (now first) (now exits) (now strengths) (now order) (now best) (now labels) ⌝ }
     ensures { λ r. ⌜ groupingOf (now (labels .exit)) r ≡ runInfomap (network (now (table .entry)) stride (length (now (labels .entry)))) seed ⌝ }
 {
     map_state::sum_strengths(table, stride, strength);

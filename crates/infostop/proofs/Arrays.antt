@@ -8,7 +8,7 @@ use lib.ListN.{length, take, drop, replicate, length-replicate, take-append-drop
 use lib.Seq.{drop-append-le}
 use Rattle.lists.specs.Lists.{overlay}
 use Rattle.lists.proofs.Overlay.{take-front}
-use Rattle.infostop.proofs.Slices.{lent, back, lent-length, back-length, lent-first}
+use Rattle.lists.proofs.Parts.{lent, back, lent-length, back-length, lent-first}
 
 abbrev pub array : {A : Type 0} → A → List A
 array d = replicate 512 d

@@ -12,26 +12,28 @@ use lib.Ieee.{Float}
 use Rattle.lists.specs.Lists.{overlay}
 use Rattle.float.specs.Binary64.{zero64}
 use Rattle.distance.specs.declared.Point.{Point}
-use Rattle.distance.specs.Distance.{euclidean}
-use Rattle.stay.specs.Trace.{Fix}
-use Rattle.neighbors.specs.Places.{Place, places, placesWithin, points, placesIn, placeXs, placeYs, placeCounts}
+use Rattle.distance.specs.Distance.{euclidean, points}
+use Rattle.trace.specs.Trace.{Fix}
+use Rattle.neighbors.specs.Places.{Place, places, placesIn, placeXs, placeYs}
+use Rattle.neighbors.specs.StepsPlaces.{placesWithin, placeCounts}
 use Rattle.cluster.specs.Cluster.{Clustering, cluster, noneLabelled}
 use Rattle.infomap.specs.Infomap.{RunMark}
-use Rattle.tracks.specs.declared.config.Config.{Config}
-use Rattle.tracks.specs.declared.refusal.Refusal.{Refusal}
-use Rattle.tracks.specs.declared.refusal.Refusal.the-variants.{TooManyPlaces}
-use Rattle.events.specs.FixLabels.{allMedians, fixLabels}
-use Rattle.events.specs.Events.{stayLabels, eventLabels}
-use Rattle.events.specs.Found.{AllFound}
-use Rattle.events.proofs.AllEvents.{found-labels}
-use Rattle.fit.specs.Fit.{staySettings, Fitted, Outcome, refused, fitted, unlessNone, givenBy, fromPlaces}
+use Rattle.settings.specs.declared.config.Config.{Config}
+use Rattle.settings.specs.declared.refusal.Refusal.{Refusal}
+use Rattle.settings.specs.declared.refusal.Refusal.the-variants.{TooManyPlaces}
+use Rattle.stay.specs.Stays.{allMedians}
+use Rattle.cluster.specs.FixLabels.{fixLabels, stayLabels}
+use Rattle.cluster.specs.Steps.{eventLabels}
+use Rattle.stay.specs.StepsAll.{AllFound}
+use Rattle.cluster.proofs.FixLabels.{found-labels}
+use Rattle.infostop.specs.Fit.{Fitted, Outcome, refused, fitted, unlessNone, givenBy, fromPlaces}
 use Rattle.infostop.specs.declared.model.Infostop.{Infostop}
 use Rattle.infostop.specs.declared.answer.Answer.{Answer}
 use Rattle.infostop.specs.declared.answer.Answer.the-variants.{Labelled, Refused}
 use Rattle.infostop.specs.Models.{fittedModel, modelAfter}
-use Rattle.infostop.specs.Ends.{Told, no, kept, told, toldBy, labelsAfter, Ended}
+use Rattle.infostop.specs.Ends.{refusedWith, labelledBy, told, toldBy, labelsAfter, Ended}
 use Rattle.infostop.specs.Steps.{Space, mediansIn, fromClustering, outcomeIn, Grouped, chosen, placesOutcome}
-use Rattle.infostop.proofs.Slices.{lent, back, take-drop-take}
+use Rattle.lists.proofs.Parts.{lent, back, take-drop-take}
 use Rattle.infostop.proofs.Arrays.{array}
 use Rattle.infostop.proofs.Placed.{medians, found, medians-are, places-in, next-is}
 
@@ -39,7 +41,7 @@ use Rattle.infostop.proofs.Placed.{medians, found, medians-are, places-
 pub refused-ends : (m : Infostop) (old : List ℤ) (o : Outcome) (e : Refusal) → o ≡ refused e → Ended m old o (record { answer = Refused e; model = m }) old
 refused-ends m old o e q = record { answer = ap told (sym q); model = ap (modelAfter m) (sym q); fixes = ap (labelsAfter old) (sym q) }
 
-pub no-kept : {A : Type 0} (m : RunMark) (r n t : ℕ) → kept m r ≡ no n t → A
+pub no-kept : {A : Type 0} (m : RunMark) (r n t : ℕ) → labelledBy m r ≡ refusedWith n t → A
 no-kept m r n t q = absurd (let z : _≡_ {A = ℕ} 0 1 = cc in omega arith)
 
 -- An answer that tells the outcome, with the model that fits it.
@@ -56,12 +58,12 @@ unless-fitted true g f e = absurd (let z : _≡_ {A = ℕ} 0 1 = cc in omega ari
 unless-fitted false g f e = let q : g ≡ f = cc in sym q
 
 module _ (m : Infostop) (cap k : ℕ) (floats : List Float) (words old : List ℤ) (ts : List (List Fix)) (few-stays : k ≤ length old) (room : 4 * length old ≤ length floats)
-    (f : AllFound (staySettings (m .config)) ts (length old) (take (4 * length old) floats) (take (length old) words) k) where
+    (f : AllFound (m .config) ts (length old) (take (4 * length old) floats) (take (length old) words) k) where
   abbrev c : Config
   c = m .config
 
   abbrev ps : List Place
-  ps = places (allMedians euclidean (staySettings c) ts)
+  ps = places (allMedians euclidean c ts)
 
   abbrev K : Clustering
   K = cluster euclidean (c .r2) (c .«label_singleton») (c .seed) ps
@@ -69,11 +71,13 @@ module _ (m : Infostop) (cap k : ℕ) (floats : List Float) (words old : List �
   in-front : points (take k (drop (2 * length old) (take (4 * length old) floats))) (take k (drop (3 * length old) (take (4 * length old) floats))) ≡ mediansIn (length old) k floats
   in-front = ap₂ points (take-drop-take (2 * length old) k (4 * length old) floats (omega arith) room) (take-drop-take (3 * length old) k (4 * length old) floats (omega arith) room)
 
-  pub medians-found : mediansIn (length old) k floats ≡ allMedians euclidean (staySettings c) ts
+  pub medians-found : mediansIn (length old) k floats ≡ allMedians euclidean c ts
   medians-found = sym in-front ∙ f .medians
 
-  labels-found : eventLabels (stayLabels ps (K .labels) (mediansIn (length old) k floats)) (take (length old) words) ≡ fixLabels euclidean (staySettings c) ps (K .labels) ts
-  labels-found = ap (λ (z : List Point). eventLabels (stayLabels ps (K .labels) z) (take (length old) words)) (sym in-front) ∙ found-labels (staySettings c) ts (length old) (take (4 * length old) floats) (take (length old) words) k f ps (K .labels)
+  labels-found : eventLabels (stayLabels ps (K .labels) (mediansIn (length old) k floats)) (take (length old) words) ≡ fixLabels euclidean c ps (K .labels) ts
+  labels-found =
+      ap (λ (z : List Point). eventLabels (stayLabels ps (K .labels) z) (take (length old) words)) (sym in-front) ∙ found-labels c ts (length old)
+      (take (4 * length old) floats) (take (length old) words) k f ps (K .labels)
 
   -- More places than the cap is 19.
   pub too-many-outcome : ltb cap (length ps) ≡ true → placesOutcome c cap ts ≡ refused TooManyPlaces
@@ -103,15 +107,21 @@ module _ (m : Infostop) (cap k : ℕ) (floats : List Float) (words old : List �
     unfolding givenBy
     placed-end next e =
         ended m next old labels (placesOutcome c cap ts) a (g .answer ∙ ap told outcomes)
-        (λ h q. let r = unless-fitted _ (givenBy euclidean c cap ts ps K) h (sym (outcome-is (le-ltb cap (length ps) few)) ∙ q) in
-        e
-        ∙ ap (λ (z : List ℤ). record { config = c; xs = overlay (placeXs ps) (array zero64); ys = overlay (placeYs ps) (array zero64); labels = overlay z (array (negsuc 0)); count = length ps; fitted = true }) place-labels
-        ∙ ap (fittedModel c) (sym r))
+        (λ h q. let r = unless-fitted _ (givenBy euclidean c cap ts ps K) h (sym (outcome-is (le-ltb cap (length ps) few)) ∙ q) in e ∙ ap
+        (λ (z : List ℤ). record {
+          config = c;
+          xs = overlay (placeXs ps) (array zero64);
+          ys = overlay (placeYs ps) (array zero64);
+          labels = overlay z (array (negsuc 0));
+          count = length ps;
+          fitted = true;
+        })
+        place-labels ∙ ap (fittedModel c) (sym r))
         (g .of-fixes ∙ ap (labelsAfter old) outcomes)
 
 -- ---- what `from_medians` comes to
 module _ (m : Infostop) (cap k : ℕ) (floats : List Float) (words old : List ℤ) (few : cap ≤ 512) (space : Space (length old) k cap (length floats) (length words)) (ts : List (List Fix))
-    (f : AllFound (staySettings (m .config)) ts (length old) (take (4 * length old) floats) (take (length old) words) k) where
+    (f : AllFound (m .config) ts (length old) (take (4 * length old) floats) (take (length old) words) k) where
   room : 4 * length old ≤ length floats
   room = omega (arith, space .floats-length)
 

@@ -9,13 +9,14 @@ use lib.Ieee.{Float}
 use Rattle.lists.proofs.Overlay.{take-front}
 use Rattle.float.specs.Binary64.{zero64}
 use Rattle.distance.specs.declared.Point.{Point}
-use Rattle.neighbors.specs.Places.{Place, points, placeXs, placeYs, AllDiffer}
+use Rattle.neighbors.specs.Places.{Place, placeXs, placeYs, AllDiffer}
+use Rattle.distance.specs.Distance.{points}
 use Rattle.neighbors.proofs.Within.{length-placeXs, length-placeYs}
 use Rattle.infomap.specs.declared.Mark.{Mark}
 use Rattle.cluster.specs.Cluster.{NoGap}
-use Rattle.tracks.specs.declared.config.Config.{Config}
-use Rattle.fit.specs.Fit.{Fitted, Outcome, refused, fitted, fit}
-use Rattle.fit.proofs.FittedPlaces.{fit-no-gap, fit-differ, fit-places-few, fit-place-labels}
+use Rattle.settings.specs.declared.config.Config.{Config}
+use Rattle.infostop.specs.Fit.{Fitted, Outcome, refused, fitted, fit}
+use Rattle.infostop.proofs.FittedPlaces.{fit-no-gap, fit-differ, fit-places-few, fit-place-labels}
 use Rattle.infostop.specs.declared.model.Infostop.{Infostop}
 use Rattle.infostop.specs.declared.answer.Answer.the-variants.{Labelled}
 use Rattle.infostop.specs.declared.answer.Fit.{Fit}
@@ -29,7 +30,9 @@ points-of [] = refl
 points-of (p ∷ ps) = ap (λ (l : List Point). p .at ∷ l) (points-of ps)
 
 -- The arrays of a fitted model hold what the fit gave.
-model-places : (c : Config) (f : Fitted) → length (f .places) ≤ 512 → length (f .placeLabels) ≡ length (f .places) → NoGap (f .placeLabels) → AllDiffer (map (λ (p : Place). p .at) (f .places)) → FittedPlaces (fittedModel c f)
+model-places :
+    (c : Config) (f : Fitted) → length (f .places) ≤ 512 → length (f .placeLabels) ≡ length (f .places) → NoGap (f .placeLabels) → AllDiffer
+    (map (λ (p : Place). p .at) (f .places)) → FittedPlaces (fittedModel c f)
 model-places c f few long gap diff = record {
   few = few;
   no-gap = subst NoGap (sym (take-front (f .placeLabels) (replicate 512 (negsuc 0)) _ (length (f .places)) (sym long) refl)) gap;

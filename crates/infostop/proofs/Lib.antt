@@ -1,4 +1,6 @@
-pub mod Slices
+pub mod Theorem
+pub mod Accepted
+pub mod FittedPlaces
 pub mod Arrays
 pub mod Grouping
 pub mod Stays

@@ -15,13 +15,15 @@ use Rattle.float.specs.Binary64.{zero64}
 use Rattle.distance.specs.declared.Point.{Point}
 use Rattle.neighbors.specs.declared.places.PlaceCount.{PlaceCount}
 use Rattle.neighbors.specs.declared.places.PlaceCount.the-variants.{Places, TooMany}
-use Rattle.neighbors.specs.Places.{Place, placeAt, places, placesWithin, stayCount, points, placesIn, placeXs, placeYs, placeCounts, distinctWithin}
+use Rattle.neighbors.specs.Places.{Place, placeAt, places, placesIn, placeXs, placeYs}
+use Rattle.neighbors.specs.StepsPlaces.{placesWithin, stayCount, placeCounts, distinctWithin}
+use Rattle.distance.specs.Distance.{points}
 use Rattle.neighbors.proofs.Within.{within-places, length-placeXs, length-placeYs, length-placeCounts, places-columns}
 use Rattle.neighbors.proofs.Found.{counted, all-counted}
-use Rattle.tracks.specs.declared.config.Config.{Config}
+use Rattle.settings.specs.declared.config.Config.{Config}
 use Rattle.infostop.specs.declared.model.Infostop.{Infostop}
 use Rattle.infostop.specs.Steps.{PlaceSlices, Space, mediansIn}
-use Rattle.infostop.proofs.Slices.{lent, back, lent-length}
+use Rattle.lists.proofs.Parts.{lent, back, lent-length}
 use Rattle.infostop.proofs.Arrays.{array, array-front, array-whole, column}
 
 -- ---- how many places
@@ -140,6 +142,23 @@ module _ (cap k : ℕ) (floats : List Float) (words old : List ℤ) (few : cap �
           → _≡_ {A = Infostop} (record { config = c; xs = xs'; ys = ys'; labels = back 0 p pl (array (negsuc 0)); count = p; fitted = true })
           (record { config = c; xs = overlay (placeXs ps) (array zero64); ys = overlay (placeYs ps) (array zero64); labels = overlay pl (array (negsuc 0)); count = length ps; fitted = true })
       next-is c pl ps l e =
-          ap₂ (λ (x y : List Float). record { config = c; xs = x; ys = y; labels = back 0 p pl (array (negsuc 0)); count = p; fitted = true }) xs-are ys-are
-          ∙ ap₂ (λ (z : List ℤ) (k : ℕ). record { config = c; xs = overlay (placeXs found) (array zero64); ys = overlay (placeYs found) (array zero64); labels = z; count = k; fitted = true }) (array-whole (negsuc 0) pl p l) is
-          ∙ ap (λ (z : List Place). record { config = c; xs = overlay (placeXs z) (array zero64); ys = overlay (placeYs z) (array zero64); labels = overlay pl (array (negsuc 0)); count = length z; fitted = true }) e
+          ap₂ (λ (x y : List Float). record { config = c; xs = x; ys = y; labels = back 0 p pl (array (negsuc 0)); count = p; fitted = true })
+          xs-are ys-are ∙ ap₂
+          (λ (z : List ℤ) (k : ℕ). record {
+            config = c;
+            xs = overlay (placeXs found) (array zero64);
+            ys = overlay (placeYs found) (array zero64);
+            labels = z;
+            count = k;
+            fitted = true;
+          })
+          (array-whole (negsuc 0) pl p l) is ∙ ap
+          (λ (z : List Place). record {
+            config = c;
+            xs = overlay (placeXs z) (array zero64);
+            ys = overlay (placeYs z) (array zero64);
+            labels = overlay pl (array (negsuc 0));
+            count = length z;
+            fitted = true;
+          })
+          e

@@ -9,26 +9,24 @@ use lib.ListN.{length}
 use lib.Ieee.{Float}
 use Rattle.lists.proofs.Tests.{clash}
 use Rattle.distance.specs.declared.Point.{Point}
-use Rattle.distance.specs.Distance.{euclidean}
-use Rattle.stay.specs.Trace.{Fix, fixes}
+use Rattle.distance.specs.Distance.{euclidean, Metric}
+use Rattle.trace.specs.Trace.{Fix, fixes, traces}
 use Rattle.neighbors.specs.Places.{Place, places}
-use Rattle.neighbors.specs.Links.{Metric}
-use Rattle.infomap.specs.declared.Mark.{Mark}
 use Rattle.infomap.specs.Infomap.{RunMark, markOf}
 use Rattle.cluster.specs.Cluster.{cluster, noneLabelled}
-use Rattle.tracks.specs.declared.config.Config.{Config}
-use Rattle.tracks.specs.declared.refusal.Refusal.{Refusal}
-use Rattle.tracks.specs.declared.refusal.Checked.the-variants as checked
-use Rattle.tracks.specs.Settings.{checkConfig}
-use Rattle.tracks.specs.Tracks.{traces, checkTracks}
-use Rattle.events.specs.FixLabels.{allMedians}
-use Rattle.fit.specs.Demand.{Demand3}
-use Rattle.fit.specs.Fit.{staySettings, Fitted, Outcome, refused, fitted, unlessNone, givenBy, fromPlaces, fromMedians, fitTraces, unlessRefused, fit}
-use Rattle.fit.proofs.Accepted.{fit-demand3}
+use Rattle.settings.specs.declared.config.Config.{Config}
+use Rattle.settings.specs.declared.refusal.Refusal.{Refusal}
+use Rattle.settings.specs.declared.refusal.Checked.the-variants as checked
+use Rattle.settings.specs.Settings.{checkConfig}
+use Rattle.checks.specs.Tracks.{checkTracks}
+use Rattle.stay.specs.Stays.{allMedians}
+use Rattle.infostop.specs.Demand.{Demand3}
+use Rattle.infostop.specs.Fit.{Fitted, Outcome, refused, fitted, unlessNone, givenBy, fromPlaces, fromMedians, fitTraces, unlessRefused, fit}
+use Rattle.infostop.proofs.Accepted.{fit-demand3}
 use Rattle.infostop.specs.declared.model.Infostop.{Infostop}
-use Rattle.infostop.specs.declared.answer.Answer.the-variants.{Labelled, Refused}
+use Rattle.infostop.specs.declared.answer.Answer.the-variants.{Refused}
 use Rattle.infostop.specs.declared.answer.Fit.{Fit}
-use Rattle.infostop.specs.Ends.{kept, toldBy, Ended, keepsWork, WorkEnds, HoldsDemand3, Promised}
+use Rattle.infostop.specs.Ends.{labelledBy, toldBy, Ended, keepsWork, WorkEnds, HoldsDemand3, Promised}
 use Rattle.infostop.proofs.Ending.{no-kept, refused-ends}
 
 -- ---- the fit by its checks
@@ -44,7 +42,9 @@ module _ (c : Config) (xs ys times : List Float) (marks lens : List ℕ) (labels
   unfolding fit unlessRefused
   tracks-refused e p q = rw (p, q) refl
 
-  pub both-accepted : checkConfig c ≡ checked.Accepted → checkTracks xs ys times marks lens labels cap floats words ≡ checked.Accepted → outcome ≡ fitTraces euclidean c cap (traces lens (fixes xs ys times marks))
+  pub both-accepted :
+      checkConfig c ≡ checked.Accepted → checkTracks xs ys times marks lens labels cap floats words ≡ checked.Accepted → outcome ≡ fitTraces
+      euclidean c cap (traces lens (fixes xs ys times marks))
   unfolding fit unlessRefused
   both-accepted p q = rw (p, q) refl
 
@@ -67,14 +67,14 @@ module _ (dist : Metric) (c : Config) (cap : ℕ) (ts : List (List Fix)) where
 
   pub free-work : keepsWork (fitTraces dist c cap ts) ≡ false
   unfolding fitTraces
-  free-work = free-medians (allMedians dist (staySettings c) ts)
+  free-work = free-medians (allMedians dist c ts)
 
 pub work-ends : (o : Outcome) (floats floats' : List Float) (words words' : List ℤ) → keepsWork o ≡ false → WorkEnds o floats words floats' words'
 work-ends o floats floats' words words' e h = absurd (clash (keepsWork o) h e)
 
 -- ---- demand 3
 
-kept-mark : (m m' : RunMark) (r r' : ℕ) → kept m r ≡ kept m' r' → m ≡ m'
+kept-mark : (m m' : RunMark) (r r' : ℕ) → labelledBy m r ≡ labelledBy m' r' → m ≡ m'
 kept-mark m m' r r' e = cc
 
 module _ (m : Infostop) (xs ys times : List Float) (marks lens : List ℕ) (old : List ℤ) (cap floats words : ℕ) (r : Fit) (labels : List ℤ) where
@@ -122,4 +122,5 @@ module _ (m : Infostop) (xs ys times : List Float) (marks lens : List ℕ) (old 
       → Ended m old (fitTraces euclidean (m .config) cap tracks) r labels → Holds r labels floats' words'
   promised-fit r labels floats' words' p q x =
       let b = both-accepted (m .config) xs ys times marks lens (length old) cap (length floats) (length words) p q in
-      promised r labels floats' words' (subst (λ (z : Outcome). Ended m old z r labels) (sym b) x) (work-ends whole floats floats' words words' (ap keepsWork b ∙ free-work euclidean (m .config) cap tracks))
+      promised r labels floats' words' (subst (λ (z : Outcome). Ended m old z r labels) (sym b) x)
+      (work-ends whole floats floats' words words' (ap keepsWork b ∙ free-work euclidean (m .config) cap tracks))

@@ -1,7 +1,7 @@
 -- What the stays of all traces leave in the work slices, and what follows for the outcome.
-use mathlib.Core.Path.{_≡_, refl, sym, ap, ap₂, _∙_, subst}
+use mathlib.Core.Path.{_≡_, refl, sym, ap, _∙_, subst}
 use mathlib.Core.List.{List, [], _∷_}
-use Prim.Native.Nat.{ℕ, _+_, _*_, _-_, _≤_}
+use Prim.Native.Nat.{ℕ, _*_, _-_, _≤_}
 use native.Mathlib.Nat.{sub-zero}
 use native.Mathlib.Omega.{arith}
 use lib.Dec.{ltb}
@@ -11,19 +11,18 @@ use lib.Seq.{take-at}
 use lib.Ieee.{Float}
 use Rattle.distance.specs.declared.Point.{Point}
 use Rattle.distance.specs.Distance.{euclidean}
-use Rattle.stay.specs.declared.StaySettings.{StaySettings}
-use Rattle.stay.specs.Trace.{Fix}
+use Rattle.settings.specs.declared.config.Config.{Config}
+use Rattle.trace.specs.Trace.{Fix}
 use Rattle.neighbors.specs.Places.{places}
-use Rattle.tracks.specs.declared.config.Config.{Config}
-use Rattle.tracks.specs.declared.refusal.Refusal.the-variants.{NoStop}
-use Rattle.tracks.specs.declared.refusal.Checked.the-variants.{Accepted}
-use Rattle.tracks.specs.Tracks.{checkTracks}
-use Rattle.tracks.proofs.Accepted.{AcceptedFit, tracks-accepted}
-use Rattle.events.specs.FixLabels.{allMedians}
-use Rattle.events.specs.Found.{AllLengths, AllFound}
-use Rattle.fit.specs.Fit.{staySettings, Outcome, refused, fromPlaces, fromMedians, fitTraces}
+use Rattle.settings.specs.declared.refusal.Refusal.the-variants.{NoStop}
+use Rattle.settings.specs.declared.refusal.Checked.the-variants.{Accepted}
+use Rattle.checks.specs.Tracks.{checkTracks}
+use Rattle.checks.proofs.Accepted.{AcceptedFit, tracks-accepted}
+use Rattle.stay.specs.Stays.{allMedians}
+use Rattle.stay.specs.StepsAll.{AllLengths, AllFound}
+use Rattle.infostop.specs.Fit.{refused, fromPlaces, fromMedians, fitTraces}
 use Rattle.infostop.specs.Steps.{Space, placesOutcome}
-use Rattle.infostop.proofs.Slices.{lent, back, lent-length, back-length}
+use Rattle.lists.proofs.Parts.{lent, back, lent-length, back-length}
 
 module _ (xs ys ts : List Float) (ms lens : List ℕ) (floats : List Float) (words old : List ℤ) (cap : ℕ)
     (h : checkTracks xs ys ts ms lens (length old) cap (length floats) (length words) ≡ Accepted) where
@@ -57,7 +56,7 @@ module _ (xs ys ts : List Float) (ms lens : List ℕ) (floats : List Float) (wor
     few = accepted .tracks .few-fixes;
   }
 
-  module _ (s : StaySettings) (traces : List (List Fix)) (work : List Float) (events : List ℤ) (k : ℕ) (work-length : length work ≡ length (lent 0 (4 * n) floats)) (events-length : length events ≡ length (lent 0 n words))
+  module _ (s : Config) (traces : List (List Fix)) (work : List Float) (events : List ℤ) (k : ℕ) (work-length : length work ≡ length (lent 0 (4 * n) floats)) (events-length : length events ≡ length (lent 0 n words))
       (found : AllFound s traces (length xs) work events k) where
     abbrev floats' : List Float
     floats' = back 0 (4 * n) work floats
@@ -95,17 +94,21 @@ none-outcome c cap ts [] e = refl
 none-outcome c cap ts (m ∷ ms) e = absurd (omega arith)
 
 -- No stay is 18.
-pub no-stay : (c : Config) (cap : ℕ) (ts : List (List Fix)) (n : ℕ) (work : List Float) (events : List ℤ) (k : ℕ) → AllFound (staySettings c) ts n work events k → k ≡ 0 → fitTraces euclidean c cap ts ≡ refused NoStop
+pub no-stay :
+    (c : Config) (cap : ℕ) (ts : List (List Fix)) (n : ℕ) (work : List Float) (events : List ℤ) (k : ℕ) → AllFound c ts n work events k → k ≡ 0 →
+    fitTraces euclidean c cap ts ≡ refused NoStop
 unfolding fitTraces
-no-stay c cap ts n work events k f e = none-outcome c cap ts (allMedians euclidean (staySettings c) ts) (sym (f .count) ∙ e)
+no-stay c cap ts n work events k f e = none-outcome c cap ts (allMedians euclidean c ts) (sym (f .count) ∙ e)
 
-some-outcome : (c : Config) (cap : ℕ) (ts : List (List Fix)) (ms : List Point) → (length ms ≡ 0 → ⊥) → fromPlaces euclidean c cap ts (places ms) (ltb cap (length (places ms))) ≡ fromMedians euclidean c cap ts ms
+some-outcome :
+    (c : Config) (cap : ℕ) (ts : List (List Fix)) (ms : List Point) → (length ms ≡ 0 → ⊥) → fromPlaces euclidean c cap ts (places ms)
+    (ltb cap (length (places ms))) ≡ fromMedians euclidean c cap ts ms
 unfolding fromMedians
 some-outcome c cap ts [] e = absurd (e refl)
 some-outcome c cap ts (m ∷ ms) e = refl
 
 -- With a stay the fit goes on from its places.
-pub some-stay : (c : Config) (cap : ℕ) (ts : List (List Fix)) (n : ℕ) (work : List Float) (events : List ℤ) (k : ℕ) → AllFound (staySettings c) ts n work events k → (k ≡ 0 → ⊥)
+pub some-stay : (c : Config) (cap : ℕ) (ts : List (List Fix)) (n : ℕ) (work : List Float) (events : List ℤ) (k : ℕ) → AllFound c ts n work events k → (k ≡ 0 → ⊥)
     → placesOutcome c cap ts ≡ fitTraces euclidean c cap ts
 unfolding fitTraces
-some-stay c cap ts n work events k f e = some-outcome c cap ts (allMedians euclidean (staySettings c) ts) (λ z. e (f .count ∙ z))
+some-stay c cap ts n work events k f e = some-outcome c cap ts (allMedians euclidean c ts) (λ z. e (f .count ∙ z))

@@ -1,4 +1,4 @@
--- How a fit ends for its caller: what is told, the model, the labels and the work slices, by the outcome that crate `fit` defines; and demand 3
+-- How a fit ends for its caller: what is told, the model, the labels and the work slices, by the outcome that `fit` (Fit.antt) defines; and demand 3
 -- of what the caller then holds. Definitions only.
 use mathlib.Core.Path.{_≡_}
 use Prim.Native.Nat.{ℕ}
@@ -8,13 +8,13 @@ use lib.Dec.{ltb}
 use lib.IntN.{ℤ}
 use lib.Ieee.{Float}
 use Rattle.distance.specs.Distance.{euclidean}
-use Rattle.stay.specs.Trace.{Fix}
+use Rattle.trace.specs.Trace.{Fix}
 use Rattle.infomap.specs.declared.Mark.{Mark}
 use Rattle.infomap.specs.Infomap.{RunMark, markOf}
-use Rattle.tracks.specs.declared.config.Config.{Config}
-use Rattle.tracks.specs.Refusals.{numberOf, traceOf}
-use Rattle.fit.specs.Demand.{Demand3}
-use Rattle.fit.specs.Fit.{Outcome, refused, fitted}
+use Rattle.settings.specs.declared.config.Config.{Config}
+use Rattle.settings.specs.Refusals.{numberOf, traceOf}
+use Rattle.infostop.specs.Demand.{Demand3}
+use Rattle.infostop.specs.Fit.{Outcome, refused, fitted}
 use Rattle.infostop.specs.declared.model.Infostop.{Infostop}
 use Rattle.infostop.specs.declared.answer.Answer.{Answer}
 use Rattle.infostop.specs.declared.answer.Answer.the-variants.{Labelled, Refused}
@@ -23,17 +23,17 @@ use Rattle.infostop.specs.Models.{modelAfter}
 
 -- What is told of a fit: the rules' number of the refusal and its trace, or the mark and the rounds of the kept trial.
 pub data Told : Type 0 where
-  no : ℕ → ℕ → Told
-  kept : RunMark → ℕ → Told
+  refusedWith : ℕ → ℕ → Told
+  labelledBy : RunMark → ℕ → Told
 
 abbrev pub told : Outcome → Told
-told (refused e) = no (numberOf e) (traceOf e)
-told (fitted f) = kept (f .mark) (f .rounds)
+told (refused e) = refusedWith (numberOf e) (traceOf e)
+told (fitted f) = labelledBy (f .mark) (f .rounds)
 
 -- The same of each case of the code's answer.
 abbrev pub toldBy : Answer → Told
-toldBy (Labelled m r) = kept (markOf m) r
-toldBy (Refused e) = no (numberOf e) (traceOf e)
+toldBy (Labelled m r) = labelledBy (markOf m) r
+toldBy (Refused e) = refusedWith (numberOf e) (traceOf e)
 
 -- A refusal leaves the labels as they were.
 abbrev pub labelsAfter : List ℤ → Outcome → List ℤ
@@ -61,7 +61,8 @@ HoldsDemand3 c ts r labels = (m : Mark) (rounds : ℕ) → r .answer ≡ Labelle
 
 -- What a fit with the model m promises, whose outcome by the definition is o, over the traces ts: how it ends for the caller's labels `old` and
 -- the work slices, and demand 3. Behind them what the caller then holds.
-pub record Promised (m : Infostop) (old : List ℤ) (floats : List Float) (words : List ℤ) (o : Outcome) (ts : List (List Fix)) (r : Fit) (labels : List ℤ) (floats' : List Float) (words' : List ℤ) : Type 0 where
+pub record Promised (m : Infostop) (old : List ℤ) (floats : List Float) (words : List ℤ) (o : Outcome) (ts : List (List Fix)) (r : Fit)
+    (labels : List ℤ) (floats' : List Float) (words' : List ℤ) : Type 0 where
   pub ended : Ended m old o r labels
   pub work : WorkEnds o floats words floats' words'
   pub demand3 : HoldsDemand3 (m .config) ts r labels

@@ -1,7 +1,8 @@
 -- What every model that a fit has altered holds, and the reports lean on. Definitions only.
 use Prim.Native.Nat.{_≤_}
 use lib.ListN.{take}
-use Rattle.neighbors.specs.Places.{points, AllDiffer}
+use Rattle.distance.specs.Distance.{points}
+use Rattle.neighbors.specs.Places.{AllDiffer}
 use Rattle.cluster.specs.Cluster.{NoGap}
 use Rattle.infostop.specs.declared.model.Infostop.{Infostop}
 

@@ -1,5 +1,9 @@
-pub mod Models
+pub mod Fit
+pub mod Demand
+pub mod Tries
 pub mod Facts
+pub mod Models
+pub mod NewModel
 pub mod FittedModels
 pub mod Ends
 pub mod Steps

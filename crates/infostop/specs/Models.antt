@@ -5,9 +5,9 @@ use lib.ListN.{length, replicate}
 use Rattle.lists.specs.Lists.{overlay}
 use Rattle.float.specs.Binary64.{zero64}
 use Rattle.neighbors.specs.Places.{placeXs, placeYs}
-use Rattle.tracks.specs.declared.config.Config.{Config}
-use Rattle.tracks.specs.Settings.{checkConfig}
-use Rattle.fit.specs.Fit.{Fitted, Outcome, refused, fitted}
+use Rattle.settings.specs.declared.config.Config.{Config}
+use Rattle.settings.specs.Settings.{checkConfig}
+use Rattle.infostop.specs.Fit.{Fitted, Outcome, refused, fitted}
 use Rattle.infostop.specs.declared.model.Infostop.{Infostop}
 use Rattle.infostop.specs.declared.model.Made.{Made}
 
@@ -21,7 +21,15 @@ fromConfig c = record { checked = checkConfig c; model = freshModel c }
 
 -- The model after a fit without a refusal: the places and their labels stand in front of the arrays.
 abbrev pub fittedModel : Config → Fitted → Infostop
-fittedModel c f = record { config = c; xs = overlay (placeXs (f .places)) (replicate 512 zero64); ys = overlay (placeYs (f .places)) (replicate 512 zero64); labels = overlay (f .placeLabels) (replicate 512 (negsuc 0)); count = length (f .places); fitted = true }
+fittedModel c f =
+    record {
+      config = c;
+      xs = overlay (placeXs (f .places)) (replicate 512 zero64);
+      ys = overlay (placeYs (f .places)) (replicate 512 zero64);
+      labels = overlay (f .placeLabels) (replicate 512 (negsuc 0));
+      count = length (f .places);
+      fitted = true;
+    }
 
 -- Only a fit without a refusal alters the model.
 abbrev pub modelAfter : Infostop → Outcome → Infostop

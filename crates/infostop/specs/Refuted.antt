@@ -9,60 +9,55 @@ use mathlib.Core.List.{List, [], _∷_}
 use lib.IntN.{ℤ, pos, negsuc, pos-ne-negsuc}
 use lib.ListN.{length, getD}
 use lib.Ieee.{Float, size, add, sub, mul, div, neg, lt, eq, le, ne, ofInt, ofBits, toBits, isNan}
-use Rattle.lists.specs.Lists.{from, upto, anyOf, select}
+use Rattle.lists.specs.Lists.{from, upto, anyOf, select, minusOne}
 use Rattle.float.specs.Binary64.{whole64, zero64, one64, infinity64, sameBits}
 use Rattle.float.specs.Root.{root}
-use Rattle.float.specs.Ln.{ln2, series, lnOf, shift, ln, plogp}
-use Rattle.distance.specs.Distance.{euclidean}
-use Rattle.stay.specs.Trace.{Fix, fixes}
-use Rattle.stay.specs.Stays.{stayMedians, lies}
+use Rattle.float.specs.Ln.{ln2}
+use Rattle.distance.specs.Distance.{euclidean, Metric}
+use Rattle.trace.specs.Trace.{Fix, fixes, fixCount}
+use Rattle.stay.specs.Stays.{stayMedians, fixMedians, allMedians, allFixMedians}
 use Rattle.neighbors.specs.Places.{Place, samePlace, sighted, sightedAll, places, placeOf}
-use Rattle.neighbors.specs.Links.{Metric, apart, link, weight, linked, nodes}
+use Rattle.neighbors.specs.Links.{apart, link, weight, linked, nodes}
 use Rattle.neighbors.specs.Chains.{Chain, alone, step}
 use Rattle.neighbors.specs.Tables.{rowsOf, tableOf}
-use Rattle.rng.specs.Rng.{seeded, nextU64, swap, shuffleFrom, shuffle}
-use Rattle.map_state.specs.Network.{Network, row, addWeights, strengthsFrom, totalFrom, network}
-use Rattle.map_state.specs.MapState.{lowest, count, leads, statsAt, sumQFrom, sumQ, addLink, linkWeightsFrom, afterMove, moduleTerms, modulePairDelta, movedFrom, deltaFrom, deltaMove, applyMove}
-use Rattle.codelength.specs.Codelength.{addExit, exitFrom, addNode, addNodesFrom, moduleSums, fromPartition, addModule, termsFrom, nodePlogpFrom, codelengthOf, codelength}
+use Rattle.rng.specs.Rng.{seeded}
+use Rattle.map_state.specs.Network.{Network}
+use Rattle.map_state.specs.MapState.{lowest}
+use Rattle.codelength.specs.Codelength.{addModule, termsFrom, nodePlogpFrom, codelengthOf, codelength}
 use Rattle.infomap.specs.declared.Mark.the-variants.{Rest, Spent}
 use Rattle.infomap.specs.Facts.{linkedPair}
 use Rattle.infomap.specs.Infomap.{RunMark, rest, spent, markOf}
 use Rattle.cluster.specs.Cluster.{nodeNetwork}
-use Rattle.tracks.specs.declared.refusal.Refusal.{Refusal}
-use Rattle.tracks.specs.declared.refusal.Refusal.the-variants.{Lengths, TimeOrder, NoStop, TooManyPlaces}
-use Rattle.events.specs.FixLabels.{fixCount, allMedians, allLies}
-use Rattle.fit.specs.Demand.{minusOne, Given, isIn, labelIn, numbered, net, medians, distinct, Outside, LiesIn, Alone, linkedMedians, medianLabel, shownGroups, NeighbourGroup, change, Demand3}
-use Rattle.fit.specs.Fit.{Fitted, refused, fitted}
-use Rattle.fit.specs.Tries.{settings}
+use Rattle.settings.specs.declared.refusal.Refusal.{Refusal}
+use Rattle.settings.specs.declared.refusal.Refusal.the-variants.{Lengths, TimeOrder, NoStop, TooManyPlaces}
+use Rattle.infostop.specs.Demand.{Given, isIn, labelIn, numbered, net, medians, distinct, Outside, LiesIn, Alone, linkedMedians, medianLabel, shownGroups, NeighbourGroup, change, Demand3}
+use Rattle.infostop.specs.Fit.{Fitted, refused, fitted}
+use Rattle.infostop.specs.Tries.{settings}
 use Rattle.infostop.specs.declared.model.Infostop.{Infostop}
 use Rattle.infostop.specs.declared.answer.Answer.the-variants.{Labelled, Refused}
 use Rattle.infostop.specs.declared.answer.Fit.{Fit}
-use Rattle.scan.specs.Scan.{margin, place, candidates, bestDelta, better as betterOf, consider, scanFrom, scan, highestFrom, isolate}
-use Rattle.optimize.specs.Rounds.{act, pass, round, runRounds, optimizePartition}
-use Rattle.rest.specs.KeptTrial.{remains, allRemain, quietRound, afterRounds, quietEnd, generatorAt, trialAt, trialCodelength, KeptQuiet}
+use Rattle.scan.specs.Scan.{margin}
+use Rattle.optimize.specs.Examples.{trialComputed}
+use Rattle.run_laws.specs.KeptTrial.{remains, allRemain, quietRound, afterRounds, quietEnd, generatorAt, trialAt, trialCodelength, KeptQuiet}
 use Rattle.infostop.specs.Ends.{toldBy, Ended, WorkEnds}
 
 -- ---- demand 3, with the settings 10 10 1 300 86400 2 42
 
 -- What is computed below, in parts: to unfold one of these is to unfold all that it names.
 unfoldable tracksComputed : Unit {0}
-unfolding size add sub mul div neg lt eq le ne ofInt ofBits toBits isNan from upto anyOf select sameBits root euclidean stayMedians lies samePlace sighted sightedAll
-    places placeOf apart link linked nodes allMedians allLies
+unfolding size add sub mul div neg lt eq le ne ofInt ofBits toBits isNan from upto anyOf select sameBits root euclidean stayMedians fixMedians
+    samePlace sighted sightedAll
+    places placeOf apart link linked nodes allMedians allFixMedians
 tracksComputed = tt
-
-unfoldable sumsComputed : Unit {0}
-unfolding series lnOf shift ln plogp row addWeights strengthsFrom totalFrom network lowest count leads statsAt sumQFrom sumQ addLink linkWeightsFrom afterMove moduleTerms
-    modulePairDelta movedFrom deltaFrom deltaMove addExit exitFrom addNode addNodesFrom moduleSums fromPartition
-sumsComputed = tt
 
 unfoldable groupsComputed : Unit {0}
 unfolding weight rowsOf tableOf nodeNetwork isIn labelIn numbered
 groupsComputed = tt
 
-unfoldable runComputed : Unit {0}
-unfolding nextU64 swap shuffleFrom shuffle applyMove place candidates bestDelta betterOf consider scanFrom scan highestFrom isolate act pass round runRounds
-    optimizePartition addModule termsFrom nodePlogpFrom codelengthOf codelength generatorAt trialAt trialCodelength remains allRemain quietRound afterRounds quietEnd
-runComputed = tt
+unfoldable lastRoundComputed : Unit {0}
+unfolding trialComputed addModule termsFrom nodePlogpFrom codelengthOf codelength generatorAt trialAt trialCodelength remains allRemain quietRound
+    afterRounds quietEnd
+lastRoundComputed = tt
 
 -- A fix without a time, and two of them.
 abbrev pub at : ℕ → ℕ → Fix
@@ -182,23 +177,23 @@ spentAtRest = answered (stand 0 0 ∷ stand 10 0 ∷ []) (pos 0 ∷ pos 0 ∷ po
 
 -- Its network, and the codelengths of the three trials on it, which are equal.
 pair-net : net spentAtRest ≡ linkedPair
-unfolding tracksComputed sumsComputed groupsComputed
+unfolding tracksComputed trialComputed groupsComputed
 pair-net = refl
 
 length-0 : trialCodelength linkedPair (seeded 42) 0 ≡ ln2
-unfolding tracksComputed sumsComputed runComputed
+unfolding tracksComputed trialComputed lastRoundComputed
 length-0 = refl
 
 length-1 : trialCodelength linkedPair (seeded 42) 1 ≡ ln2
-unfolding tracksComputed sumsComputed runComputed
+unfolding tracksComputed trialComputed lastRoundComputed
 length-1 = refl
 
 length-2 : trialCodelength linkedPair (seeded 42) 2 ≡ ln2
-unfolding tracksComputed sumsComputed runComputed
+unfolding tracksComputed trialComputed lastRoundComputed
 length-2 = refl
 
 quiet-0 : quietEnd linkedPair (generatorAt linkedPair (seeded 42) 0) ≡ true
-unfolding tracksComputed sumsComputed runComputed
+unfolding tracksComputed trialComputed lastRoundComputed
 quiet-0 = refl
 
 first-kept : KeptQuiet linkedPair (seeded 42)
@@ -242,11 +237,11 @@ abbrev pub betterMove : Given
 betterMove = answered (stand 0 0 ∷ stand 10 0 ∷ []) (pos 0 ∷ pos 0 ∷ pos 1 ∷ pos 1 ∷ []) rest
 
 better : lt (change betterMove 1 0) (neg margin) ≡ true
-unfolding tracksComputed sumsComputed groupsComputed
+unfolding tracksComputed trialComputed groupsComputed
 better = refl
 
 into-first : NeighbourGroup betterMove 1 0
-unfolding tracksComputed sumsComputed groupsComputed
+unfolding tracksComputed trialComputed groupsComputed
 into-first = record { node = 0; inside = omega arith; link = refl; group = refl; other = λ e. omega arith }
 
 two-linked : length (linkedMedians betterMove) ≡ 2
@@ -270,7 +265,7 @@ unfolding tracksComputed groupsComputed
 row-groups = refl
 
 better-out : lt (change betterAlone 3 4) (neg margin) ≡ true
-unfolding tracksComputed sumsComputed groupsComputed
+unfolding tracksComputed trialComputed groupsComputed
 better-out = refl
 
 unused : (v : ℕ) → _≢_ {A = ℕ} (getD (0 ∷ 0 ∷ 2 ∷ 0 ∷ []) v 0) 4

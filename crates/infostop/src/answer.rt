@@ -1,7 +1,7 @@
 // What a fit hands back.
 use crate::model::Infostop;
 use infomap::Mark;
-use tracks::refusal::Refusal;
+use settings::refusal::Refusal;
 
 // The mark and the rounds of the kept trial, or the refusal.
 pub enum Answer {

@@ -2,10 +2,9 @@
 use crate::answer::Answer;
 use crate::answer::Fit;
 use crate::model::Infostop;
-use tracks::refusal::Checked;
-ghost use Rattle.stay.specs.Trace.{fixes};
-ghost use Rattle.tracks.specs.Tracks.{traces};
-ghost use Rattle.fit.specs.Fit.{fit};
+use settings::refusal::Checked;
+ghost use Rattle.trace.specs.Trace.{fixes, traces};
+ghost use Rattle.infostop.specs.Fit.{fit};
 ghost use lib.ListN.{length};
 ghost use Rattle.infostop.specs.Ends.{Promised};
 
@@ -29,18 +28,20 @@ impl Infostop {
         words: &mut [i32],
     ) -> Fit
         ensures { λ r. ⌜ Promised self (now (labels .entry)) (now (floats .entry)) (now (words .entry))
-            (fit (self .config) (now (xs .entry)) (now (ys .entry)) (now (times .entry)) (now (marks .entry)) (now (lens .entry)) (length (now (labels .entry))) places (length (now (floats .entry))) (length (now (words .entry))))
-            (traces (now (lens .entry)) (fixes (now (xs .entry)) (now (ys .entry)) (now (times .entry)) (now (marks .entry)))) r (now (labels .exit)) (now (floats .exit)) (now (words .exit)) ⌝ }
+            (fit (self .config) (now (xs .entry)) (now (ys .entry)) (now (times .entry)) (now (marks .entry)) (now (lens .entry))
+            (length (now (labels .entry))) places (length (now (floats .entry))) (length (now (words .entry))))
+            (traces (now (lens .entry)) (fixes (now (xs .entry)) (now (ys .entry)) (now (times .entry)) (now (marks .entry))))
+            r (now (labels .exit)) (now (floats .exit)) (now (words .exit)) ⌝ }
     {
         let config = self.config;
-        let a = tracks::config::check_config(config);
+        let a = settings::config::check_config(config);
         if let Checked::Refused(e) = a {
             return Fit {
                 answer: Answer::Refused(e),
                 model: self,
             };
         }
-        let b = tracks::check_tracks(
+        let b = checks::check_tracks(
             xs,
             ys,
             times,

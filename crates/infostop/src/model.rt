@@ -1,6 +1,6 @@
 // The model: places and their labels in arrays of 512 and a fitted flag, beside the settings.
-use tracks::config::Config;
-use tracks::refusal::Checked;
+use settings::config::Config;
+use settings::refusal::Checked;
 ghost use mathlib.Core.Path.{_≡_};
 ghost use Rattle.infostop.specs.Models.{freshModel, fromConfig};
 
@@ -38,7 +38,7 @@ impl Infostop {
     pub fn from_config(c: Config) -> Made
         ensures { λ r. ⌜ r ≡ fromConfig c ⌝ }
     {
-        let checked = tracks::config::check_config(c);
+        let checked = settings::config::check_config(c);
         let model = fresh(c);
         Made {
             checked: checked,

@@ -4,48 +4,41 @@ use crate::answer::Fit;
 use crate::model::Infostop;
 use infomap::Kept;
 use neighbors::places::PlaceCount;
-use stay::StaySettings;
-use tracks::config::Config;
-use tracks::refusal::Refusal;
+use settings::config::Config;
+use settings::refusal::Refusal;
 ghost use mathlib.Core.Path.{_≡_};
 ghost use mathlib.Core.Bool.{cond};
-ghost use mathlib.Core.List.{List};
-ghost use Prim.Native.Nat.{ℕ, _+_, _*_, _≤_};
-ghost use lib.ListN.{length, take};
-ghost use Rattle.distance.specs.Distance.{euclidean};
-ghost use Rattle.stay.specs.Trace.{Fix, fixes};
-ghost use Rattle.neighbors.specs.Places.{points, placesIn};
-ghost use Rattle.tracks.specs.declared.refusal.Refusal.the-variants.{NoStop};
-ghost use Rattle.tracks.specs.declared.refusal.Checked.the-variants.{Accepted};
-ghost use Rattle.tracks.specs.Tracks.{traces, checkTracks};
-ghost use Rattle.events.specs.Events.{stayLabels, eventLabels};
-ghost use Rattle.events.specs.Found.{AllFound};
-ghost use Rattle.fit.specs.Fit.{staySettings, fitTraces};
+ghost use Prim.Native.Nat.{_+_, _*_, _≤_};
+ghost use lib.ListN.{length};
+ghost use Rattle.trace.specs.Trace.{fixes};
+ghost use Rattle.settings.specs.declared.refusal.Refusal.the-variants.{NoStop};
+ghost use Rattle.settings.specs.declared.refusal.Checked.the-variants.{Accepted};
+ghost use Rattle.checks.specs.Tracks.{checkTracks};
 ghost use Rattle.infostop.specs.declared.answer.Answer.the-variants.{Labelled, Refused};
-ghost use Rattle.infostop.specs.Ends.{Ended};
-ghost use Rattle.infostop.specs.Steps.{PlaceSlices, Space, Grouped, chosen, placesOutcome};
+ghost use Rattle.infostop.specs.Steps.{PlaceSlices, Space, Grouped, FixLabelsAre, EndsFromStays, EndsFromTracks, chosen};
 
-// Unless `none`, the labels of the fixes, from their stay numbers in front of `words`; behind them stand the labels of the stays.
+// Unless `none`, the labels of the fixes, from their stay numbers in front of `words`; behind them stand the labels of the stays. The places
+// are at px and py and have the labels pl.
 fn label_fixes(
     none: bool,
     mx: &[f64],
     my: &[f64],
     px: &[f64],
     py: &[f64],
-    place_labels: &[i32],
+    pl: &[i32],
     words: &mut [i32],
     labels: &mut [i32],
 )
     requires { ⌜ (length (now my) ≡ length (now mx)) × (length (now py) ≡ length (now px)) × (length (now labels) + length (now mx) ≤ length (now words)) ⌝ }
-    ensures { λ _. ⌜ ((cs : List ℕ) → length cs ≡ length (now (px .entry)) → now (labels .exit) ≡ cond none (now (labels .entry)) (eventLabels (stayLabels (placesIn (now (px .entry)) (now (py .entry)) cs) (now («place_labels» .entry)) (points (now (mx .entry)) (now (my .entry)))) (take (length (now (labels .entry))) (now (words .entry))))) ⌝ }
+    ensures { λ _. ⌜ FixLabelsAre none (now (mx .entry)) (now (my .entry)) (now (px .entry)) (now (py .entry)) (now (pl .entry)) (now (words .entry)) (now (labels .entry)) (now (labels .exit)) ⌝ }
 {
     if none {
         return;
     }
     let n = labels.len();
     let end = n + mx.len();
-    events::stay_labels(mx, my, px, py, place_labels, &mut words[n..end]);
-    events::fix_labels(&words[0..n], &words[n..end], labels);
+    cluster::fixes::stay_labels(mx, my, px, py, pl, &mut words[n..end]);
+    cluster::fixes::fix_labels(&words[0..n], &words[n..end], labels);
 }
 
 // 18 where no place has a label, else what was kept.
@@ -68,13 +61,13 @@ fn label_tracks(
     px: &[f64],
     py: &[f64],
     counts: &[u32],
-    place_labels: &mut [i32],
+    pl: &mut [i32],
     floats: &mut [f64],
     words: &mut [i32],
     labels: &mut [i32],
 ) -> Answer
-    requires { ⌜ (PlaceSlices (now px) (now py) (now counts) (length (now «place_labels»))) × (Space (length (now labels)) k (length (now px)) (length (now floats)) (length (now words))) ⌝ }
-    ensures { λ r. ⌜ Grouped c k (now (px .entry)) (now (py .entry)) (now (counts .entry)) (now (floats .entry)) (now (words .entry)) (now (labels .entry)) r (now («place_labels» .exit)) (now (labels .exit)) ⌝ }
+    requires { ⌜ (PlaceSlices (now px) (now py) (now counts) (length (now pl))) × (Space (length (now labels)) k (length (now px)) (length (now floats)) (length (now words))) ⌝ }
+    ensures { λ r. ⌜ Grouped c k (now (px .entry)) (now (py .entry)) (now (counts .entry)) (now (floats .entry)) (now (words .entry)) (now (labels .entry)) r (now (pl .exit)) (now (labels .exit)) ⌝ }
 {
     let n = labels.len();
     let cells = 4 * n;
@@ -87,9 +80,9 @@ fn label_tracks(
         c.label_singleton,
         c.seed,
         &mut floats[cells..end],
-        place_labels,
+        pl,
     );
-    let none = cluster::labels::none_labelled(place_labels);
+    let none = cluster::labels::none_labelled(pl);
     let x = 2 * n;
     let x_end = x + k;
     let y = 3 * n;
@@ -100,7 +93,7 @@ fn label_tracks(
         &floats[y..y_end],
         px,
         py,
-        place_labels,
+        pl,
         words,
         labels,
     );
@@ -133,7 +126,7 @@ fn from_medians(
     labels: &mut [i32],
 ) -> Fit
     requires { ⌜ (places ≤ 512) × (Space (length (now labels)) k places (length (now floats)) (length (now words))) ⌝ }
-    ensures { λ r. ⌜ ((ts : List (List Fix)) → AllFound (staySettings (model .config)) ts (length (now (labels .entry))) (take (4 * length (now (labels .entry))) (now (floats .entry))) (take (length (now (labels .entry))) (now (words .entry))) k → Ended model (now (labels .entry)) (placesOutcome (model .config) places ts) r (now (labels .exit))) ⌝ }
+    ensures { λ r. ⌜ EndsFromStays model k places (now (floats .entry)) (now (words .entry)) (now (labels .entry)) r (now (labels .exit)) ⌝ }
 {
     let n = labels.len();
     let x = 2 * n;
@@ -196,24 +189,18 @@ pub fn from_tracks(
     words: &mut [i32],
 ) -> Fit
     requires { ⌜ checkTracks (now xs) (now ys) (now times) (now marks) (now lens) (length (now labels)) places (length (now floats)) (length (now words)) ≡ Accepted ⌝ }
-    ensures { λ r. ⌜ Ended model (now (labels .entry)) (fitTraces euclidean (model .config) places (traces (now (lens .entry)) (fixes (now (xs .entry)) (now (ys .entry)) (now (times .entry)) (now (marks .entry))))) r (now (labels .exit)) ⌝ }
+    ensures { λ r. ⌜ EndsFromTracks model (now (xs .entry)) (now (ys .entry)) (now (times .entry)) (now (marks .entry)) (now (lens .entry)) (now (labels .entry)) places r (now (labels .exit)) ⌝ }
 {
     let n = labels.len();
     let c = model.config;
-    let s = StaySettings {
-        r1: c.r1,
-        min_size: c.min_size,
-        min_staying_time: c.min_staying_time,
-        max_time_between: c.max_time_between,
-    };
     let end = 4 * n;
-    let k = events::all_stays(
+    let k = stay::all::all_stays(
         xs,
         ys,
         times,
         marks,
         lens,
-        s,
+        c,
         &mut floats[0..end],
         &mut words[0..n],
     );

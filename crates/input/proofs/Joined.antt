@@ -1,5 +1,5 @@
 -- Calls one behind the other: what each told, and what all told together.
-use mathlib.Core.Path.{_≡_, refl, sym, ap, _∙_}
+use mathlib.Core.Path.{_≡_, refl, sym, ap, subst, _∙_}
 use mathlib.Core.Bool.{true, false, false≢true}
 use mathlib.Core.List.{List, [], _∷_, _++_, append-assoc}
 use Prim.Native.Nat.{ℕ, zero, suc, min}
@@ -8,16 +8,19 @@ use borrow.Author.Tests.{ltb-true, ltb-false}
 use lib.IntN.{ℤ, pos, negsuc}
 use lib.Signed.{ltZ}
 use lib.ListN.{length, take}
-use lib.Ieee.{Float}
 use Rattle.io.specs.Counts.{clamped}
 use Rattle.text.specs.declared.Reader.{Reader}
-use Rattle.text.specs.Steps.{Machine, run}
-use Rattle.text.specs.Pieces.{startReader, holding, Fed}
-use Rattle.text.proofs.Pieces.{fed-start, fed-more, fed-end}
+use Rattle.text.specs.declared.Parsed.{Parsed}
+use Rattle.text.specs.declared.Parsed.the-variants.{Refused}
+use Rattle.text.specs.Values.{Columns}
+use Rattle.text.specs.Machine.{Fed}
+use Rattle.text.specs.Pieces.{Starts, Feeds, Finishes}
+use Rattle.settings.specs.declared.refusal.Refusal.the-variants.{Text}
 use Rattle.input.specs.declared.Next.{Next}
 use Rattle.input.specs.declared.Next.the-variants.{More, End, Failed}
 use Rattle.input.specs.declared.Piece.{Piece}
-use Rattle.input.specs.Calls.{Call, given, nextOf, goesOn, Taken, Heard, whole, broken, behind, heardNext, heard, finishedAs, ReadFrom, Told}
+use Rattle.input.specs.Calls.{Call, given, nextOf, Taken, Heard, whole, broken, behind, heardNext, heard, ReadFrom}
+use Rattle.input.specs.Steps.{goesOn, HoldsHeard, Told, Ends}
 
 -- ---- one call
 
@@ -39,9 +42,15 @@ told-end (pos (suc n)) h k = absurd (let z = ltb-false 0 (suc n) k in omega arit
 told-end (negsuc n) h k = absurd (false≢true (sym h))
 
 -- As many bytes as `io::count` says.
-pub taken-first : (n : ℤ) (buf : List ℕ) (k : ℕ) (m m' : Machine) → k ≡ clamped n (length buf) → m' ≡ run m (take k buf) → m' ≡ run m (given n buf)
+pub taken-first : (n : ℤ) (buf : List ℕ) (k : ℕ) {r q : Reader} {c c' : Columns} → k ≡ clamped n (length buf) → Feeds (take k buf) r c q c' → Feeds (given n buf) r c q c'
 unfolding given
-taken-first n buf k m m' e h = h ∙ ap (λ (z : ℕ). run m (take z buf)) e
+taken-first n buf k {r} {q} {c} {c'} e h = subst (λ (z : ℕ). Feeds (take z buf) r c q c') e h
+
+pub more-goes-on : {n : Next} → n ≡ More → n ≡ End → ⊥
+more-goes-on e q = let d : More ≡ End = sym e ∙ q in let z : _≡_ {A = ℕ} 0 1 = cc in omega arith
+
+pub failed-is-no-end : {n : Next} → n ≡ Failed → n ≡ End → ⊥
+failed-is-no-end e q = let d : Failed ≡ End = sym e ∙ q in let z : _≡_ {A = ℕ} 0 1 = cc in omega arith
 
 -- The end of the input gives no byte.
 none-given : (n : ℤ) (buf : List ℕ) → nextOf n ≡ End → given n buf ≡ []
@@ -80,29 +89,26 @@ module _ {gs : List Call} {t : List ℕ} (p : Passed gs t) (g : Call) where
   passed-more e =
       record { then = λ hs. ap heard (append-assoc gs (g ∷ []) hs) ∙ p .then (g ∷ hs) ∙ ap (behind t) (heard-as More g hs e) ∙ behind-more t (given (g .count) (g .buffer)) (heard hs) }
 
--- From these slices the calls gs, each of which told that there may be more, were read into r and those.
-pub record SoFar (xs ys times : List Float) (marks lens : List ℕ) (gs : List Call) (r : Reader) (xs' ys' times' : List Float) (marks' lens' : List ℕ) : Type 0 where
+-- From the slices c the calls gs, each of which told that there may be more, were read into r and the slices c'.
+pub record SoFar (c : Columns) (gs : List Call) (r : Reader) (c' : Columns) : Type 0 where
   bytes : List ℕ
-  fed : Fed xs ys times marks lens bytes r xs' ys' times' marks' lens'
+  fed : Fed c bytes r c'
   passed : Passed gs bytes
 
-module _ {xs ys times : List Float} {marks lens : List ℕ} where
-  pub so-far-start : {r : Reader} → r ≡ startReader → SoFar xs ys times marks lens [] r xs ys times marks lens
-  so-far-start e = record { bytes = []; fed = fed-start e; passed = record { then = λ hs. sym (behind-none (heard hs)) } }
+module _ {c : Columns} where
+  pub so-far-start : {r : Reader} → Starts r → SoFar c [] r c
+  so-far-start e = record { bytes = []; fed = e .start c; passed = record { then = λ hs. sym (behind-none (heard hs)) } }
 
   -- No call told of an end.
-  pub told-spent : {gs : List Call} {r : Reader} {xs' ys' times' : List Float} {marks' lens' : List ℕ} → SoFar xs ys times marks lens gs r xs' ys' times' marks' lens'
-      → ((hs : List Call) × Told xs ys times marks lens hs (record { reader = r; next = Failed }) xs' ys' times' marks' lens')
-  unfolding behind heard finishedAs
-  told-spent {gs} {r} {xs'} {ys'} {times'} {marks'} {lens'} s = (gs ++ [], record { finish = rw (s .passed .then []) refl })
+  pub told-spent : {gs : List Call} {r : Reader} {c' : Columns} → SoFar c gs r c' → ((hs : List Call) × Told c hs (record { reader = r; next = Failed }) c')
+  unfolding behind heard
+  told-spent {gs} {r} {c'} s = (gs ++ [], record { held = rw (s .passed .then []) (failed-is-no-end refl) })
 
-  module _ {gs : List Call} {r : Reader} {xs₁ ys₁ times₁ : List Float} {marks₁ lens₁ : List ℕ} (s : SoFar xs ys times marks lens gs r xs₁ ys₁ times₁ marks₁ lens₁) (g : Call)
-      {p : Piece} {xs₂ ys₂ times₂ : List Float} {marks₂ lens₂ : List ℕ}
-      (k : Taken (g .count) (g .buffer) (holding r xs₁ ys₁ times₁ marks₁ lens₁) p (holding (p .reader) xs₂ ys₂ times₂ marks₂ lens₂)) where
-    fed-too : Fed xs ys times marks lens (s .bytes ++ given (g .count) (g .buffer)) (p .reader) xs₂ ys₂ times₂ marks₂ lens₂
-    fed-too = fed-more (given (g .count) (g .buffer)) (s .fed) (k .read)
+  module _ {gs : List Call} {r : Reader} {c₁ : Columns} (s : SoFar c gs r c₁) (g : Call) {p : Piece} {c₂ : Columns} (k : Taken (g .count) (g .buffer) r c₁ p c₂) where
+    fed-too : Fed c (s .bytes ++ given (g .count) (g .buffer)) (p .reader) c₂
+    fed-too = k .read .more (s .fed)
 
-    pub so-far-more : goesOn (p .next) ≡ true → SoFar xs ys times marks lens (gs ++ (g ∷ [])) (p .reader) xs₂ ys₂ times₂ marks₂ lens₂
+    pub so-far-more : goesOn (p .next) ≡ true → SoFar c (gs ++ (g ∷ [])) (p .reader) c₂
     unfolding goesOn
     so-far-more e = record { bytes = s .bytes ++ given (g .count) (g .buffer); fed = fed-too; passed = passed-more (s .passed) g (sym (k .next) ∙ more (p .next) e) }
       where
@@ -111,13 +117,31 @@ module _ {xs ys times : List Float} {marks lens : List ℕ} where
         more End h = absurd (false≢true h)
         more Failed h = absurd (false≢true h)
 
-    pub told-last : goesOn (p .next) ≡ false → Told xs ys times marks lens (gs ++ (g ∷ [])) p xs₂ ys₂ times₂ marks₂ lens₂
-    unfolding goesOn finishedAs heardNext behind
-    told-last e = record { finish = go (p .next) refl e }
+    pub told-last : goesOn (p .next) ≡ false → Told c (gs ++ (g ∷ [])) p c₂
+    unfolding goesOn heardNext behind
+    told-last e = record { held = go (p .next) refl e }
       where
-        go : (n : Next) → p .next ≡ n → goesOn n ≡ false → ReadFrom (heard (gs ++ (g ∷ []))) xs ys times marks lens (finishedAs n (p .reader)) xs₂ ys₂ times₂ marks₂ lens₂
+        go : (n : Next) → p .next ≡ n → goesOn n ≡ false → HoldsHeard (heard (gs ++ (g ∷ []))) c p c₂
         go More h f = absurd (false≢true (sym f))
         go End h f =
             let z : nextOf (g .count) ≡ End = sym (k .next) ∙ h in
-            rw (passed-last (s .passed) g End z) (fed-end (rw (none-given (g .count) (g .buffer) z) at fed-too) refl)
-        go Failed h f = rw (passed-last (s .passed) g Failed (sym (k .next) ∙ h)) refl
+            rw (passed-last (s .passed) g End z) (h, rw (none-given (g .count) (g .buffer) z) at fed-too)
+        go Failed h f = rw (passed-last (s .passed) g Failed (sym (k .next) ∙ h)) (failed-is-no-end h)
+
+-- ---- the end
+
+-- The input has ended.
+pub ends-whole : {p : Piece} {q : Parsed} → p .next ≡ End → Finishes (p .reader) q → Ends p q
+ends-whole {p} {q} e f = record { end = λ {c} {c'} {gs} t. go (heard gs) c c' (t .held) }
+  where
+    go : (h : Heard) (c c' : Columns) → HoldsHeard h c p c' → ReadFrom h c q c'
+    go (whole t) c c' l = f .end (l .1)
+    go broken c c' l = absurd (l e)
+
+-- It has not.
+pub ends-broken : {p : Piece} {q : Parsed} → (p .next ≡ End → ⊥) → q ≡ Refused Text → Ends p q
+ends-broken {p} {q} e f = record { end = λ {c} {c'} {gs} t. go (heard gs) c c' (t .held) }
+  where
+    go : (h : Heard) (c c' : Columns) → HoldsHeard h c p c' → ReadFrom h c q c'
+    go (whole t) c c' l = absurd (e (l .0))
+    go broken c c' l = f

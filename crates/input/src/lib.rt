@@ -2,15 +2,16 @@
 // refused (22). No contract can name what C gave, so it is said of each call by itself (`take_piece`, exactly) and of the calls together (`read_input`).
 use libc::STDERR_FILENO;
 use libc::STDIN_FILENO;
+use settings::refusal::Refusal;
 use text::Parsed;
 use text::Reader;
-use tracks::refusal::Refusal;
 ghost use mathlib.Core.Path.{_≡_};
 ghost use mathlib.Core.List.{List};
-ghost use Rattle.tracks.specs.declared.refusal.Refusal.the-variants.{Text};
+ghost use Rattle.settings.specs.declared.refusal.Refusal.the-variants.{Text};
 ghost use Rattle.text.specs.declared.Parsed.the-variants.{Refused};
-ghost use Rattle.text.specs.Pieces.{holding};
-ghost use Rattle.input.specs.Calls.{Call, nextOf, goesOn, Taken, Took, Told, finishedAs, heard, ReadFrom};
+ghost use Rattle.text.specs.Values.{columns};
+ghost use Rattle.input.specs.Calls.{Call, nextOf, Taken, heard, ReadFrom};
+ghost use Rattle.input.specs.Steps.{goesOn, Took, Told, Ends};
 
 // What a call of `read` told: there may be more, the input has ended, or the call has failed.
 pub enum Next {
@@ -48,7 +49,9 @@ pub fn take_piece(
     marks: &mut [u8],
     lens: &mut [u32],
 ) -> Piece
-    ensures { λ p. ⌜ Taken got (now (buf .entry)) (holding r (now (xs .entry)) (now (ys .entry)) (now (times .entry)) (now (marks .entry)) (now (lens .entry))) p (holding (p .reader) (now (xs .exit)) (now (ys .exit)) (now (times .exit)) (now (marks .exit)) (now (lens .exit))) ⌝ }
+    ensures { λ p. ⌜
+        Taken got (now (buf .entry)) r (columns (now (xs .entry)) (now (ys .entry)) (now (times .entry)) (now (marks .entry)) (now (lens .entry)))
+        p (columns (now (xs .exit)) (now (ys .exit)) (now (times .exit)) (now (marks .exit)) (now (lens .exit))) ⌝ }
 {
     let n = io::count(got, buf);
     let q = text::feed(r, &buf[..n], xs, ys, times, marks, lens);
@@ -68,7 +71,9 @@ fn read_piece(
     marks: &mut [u8],
     lens: &mut [u32],
 ) -> Piece
-    ensures { λ p. ⌜ ((g : Call) × Took g (holding r (now (xs .entry)) (now (ys .entry)) (now (times .entry)) (now (marks .entry)) (now (lens .entry))) p (holding (p .reader) (now (xs .exit)) (now (ys .exit)) (now (times .exit)) (now (marks .exit)) (now (lens .exit)))) ⌝ }
+    ensures { λ p. ⌜ ((g : Call) ×
+        Took g r (columns (now (xs .entry)) (now (ys .entry)) (now (times .entry)) (now (marks .entry)) (now (lens .entry)))
+        p (columns (now (xs .exit)) (now (ys .exit)) (now (times .exit)) (now (marks .exit)) (now (lens .exit)))) ⌝ }
 {
     let mut buf = io::large_buffer();
     let got = libc::read(STDIN_FILENO, &mut buf);
@@ -93,7 +98,9 @@ fn read_pieces(
     marks: &mut [u8],
     lens: &mut [u32],
 ) -> Piece
-    ensures { λ p. ⌜ ((gs : List Call) × Told (now (xs .entry)) (now (ys .entry)) (now (times .entry)) (now (marks .entry)) (now (lens .entry)) gs p (now (xs .exit)) (now (ys .exit)) (now (times .exit)) (now (marks .exit)) (now (lens .exit))) ⌝ }
+    ensures { λ p. ⌜ ((gs : List Call) ×
+        Told (columns (now (xs .entry)) (now (ys .entry)) (now (times .entry)) (now (marks .entry)) (now (lens .entry)))
+        gs p (columns (now (xs .exit)) (now (ys .exit)) (now (times .exit)) (now (marks .exit)) (now (lens .exit)))) ⌝ }
 {
     let mut r = text::start();
     let mut turns = u64::MAX;
@@ -125,7 +132,7 @@ fn refuse_unread() -> Parsed
 
 // What was read, if the last call told that the input has ended.
 fn finish(p: Piece) -> Parsed
-    ensures { λ q. ⌜ q ≡ finishedAs (p .next) (p .reader) ⌝ }
+    ensures { λ q. ⌜ Ends p q ⌝ }
 {
     let next = p.next;
     match next {
@@ -143,7 +150,9 @@ pub fn read_input(
     marks: &mut [u8],
     lens: &mut [u32],
 ) -> Parsed
-    ensures { λ q. ⌜ ((gs : List Call) × ReadFrom (heard gs) (now (xs .entry)) (now (ys .entry)) (now (times .entry)) (now (marks .entry)) (now (lens .entry)) q (now (xs .exit)) (now (ys .exit)) (now (times .exit)) (now (marks .exit)) (now (lens .exit))) ⌝ }
+    ensures { λ q. ⌜ ((gs : List Call) ×
+        ReadFrom (heard gs) (columns (now (xs .entry)) (now (ys .entry)) (now (times .entry)) (now (marks .entry)) (now (lens .entry)))
+        q (columns (now (xs .exit)) (now (ys .exit)) (now (times .exit)) (now (marks .exit)) (now (lens .exit)))) ⌝ }
 {
     let p = read_pieces(xs, ys, times, marks, lens);
     finish(p)

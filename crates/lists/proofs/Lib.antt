@@ -3,3 +3,9 @@ pub mod Upto
 pub mod Members
 pub mod Sums
 pub mod Overlay
+pub mod Items
+pub mod Stores
+pub mod Maps
+pub mod Written
+pub mod Parts
+pub mod Signed

@@ -33,7 +33,10 @@ module _ {A : Type 0} where
   -- Of two fronts the later is seen, where it is no shorter.
   pub overlay-over : (k l s : List A) → length k ≤ length l → overlay l (overlay k s) ≡ overlay l s
   unfolding overlay
-  overlay-over k l s h = ap (λ (r : List A). l ++ r) (ap (λ (n : ℕ). drop n (k ++ drop (length k) s)) more ∙ drop-append-add k (drop (length k) s) rest ∙ drop-drop rest (length k) s ∙ ap (λ (n : ℕ). drop n s) (sym more))
+  overlay-over k l s h =
+      ap (λ (r : List A). l ++ r)
+      (ap (λ (n : ℕ). drop n (k ++ drop (length k) s)) more ∙ drop-append-add k (drop (length k) s) rest ∙ drop-drop rest (length k) s ∙ ap
+      (λ (n : ℕ). drop n s) (sym more))
     where
       rest : ℕ
       rest = length l - length k

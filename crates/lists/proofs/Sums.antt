@@ -7,8 +7,17 @@ use native.Mathlib.Omega.{arith}
 use mathlib.Core.Bool.{Bool, true, false}
 use borrow.Author.Tests.{ne-eqb}
 use lib.Dec.{eqb}
-use Rattle.lists.specs.Sums.{sum, only}
 use Rattle.lists.proofs.Tests.{eqb-self}
+
+-- f 0 + .. + f (n - 1).
+unfoldable pub sum : ℕ → (ℕ → ℕ) → ℕ
+sum zero f = 0
+sum (suc n) f = f 0 + sum n (λ v. f (suc v))
+
+-- x where the test holds, and 0 otherwise.
+abbrev pub only : Bool → ℕ → ℕ
+only true x = x
+only false x = 0
 
 pub sum-ext : (n : ℕ) (f g : ℕ → ℕ) → ((v : ℕ) → v < n → f v ≡ g v) → sum n f ≡ sum n g
 unfolding sum
@@ -97,4 +106,6 @@ sum-split zero n f =
     ap (λ (z : ℕ). sum z f) e ∙ (let r = sum-ext n f (λ v. f (0 + v)) (λ v p. ap f (let q : v ≡ 0 + v = omega arith in q)) in omega arith)
 sum-split (suc m) n f =
     let e : suc m + n ≡ suc (m + n) = omega arith in
-    ap (λ (z : ℕ). sum z f) e ∙ (let r = sum-split m n (λ v. f (suc v)) in let s = sum-ext n (λ v. f (suc (m + v))) (λ v. f (suc m + v)) (λ v p. ap f (let q : suc (m + v) ≡ suc m + v = omega arith in q)) in omega arith)
+    ap (λ (z : ℕ). sum z f) e ∙
+    (let r = sum-split m n (λ v. f (suc v)) in let s = sum-ext n (λ v. f (suc (m + v))) (λ v. f (suc m + v))
+    (λ v p. ap f (let q : suc (m + v) ≡ suc m + v = omega arith in q)) in omega arith)

@@ -1,7 +1,8 @@
--- Tests of numbers and what they say.
+-- Tests of numbers and what they say, and the larger of two.
 use mathlib.Core.Path.{_≡_, refl, sym, _∙_}
 use mathlib.Core.Logic.{_≢_}
-use Prim.Native.Nat.{ℕ}
+use Prim.Native.Nat.{ℕ, max}
+use native.Mathlib.Omega.{arith}
 use native.Mathlib.Decide.{ℕ-discrete}
 use mathlib.Core.Bool.{Bool, true, false, _&&_, _||_, false≢true, true≢false}
 use borrow.Author.Tests.{eq-eqb, ne-eqb}
@@ -41,3 +42,6 @@ or-true false b e = e
 -- A test cannot come out both ways.
 pub clash : {A : Type 0} (b : Bool) → b ≡ true → b ≡ false → A
 clash b p q = absurd (true≢false (sym p ∙ q))
+
+pub max-assoc : (a b c : ℕ) → max (max a b) c ≡ max a (max b c)
+max-assoc a b c = omega arith

@@ -5,6 +5,7 @@ use Prim.Native.Nat.{ℕ, zero, suc}
 use mathlib.Core.Bool.{Bool, false, _||_, cond}
 use mathlib.Core.List.{List, [], _∷_, _++_}
 use lib.Dec.{eqb}
+use lib.IntN.{ℤ, negsuc}
 use lib.ListN.{length, drop}
 
 -- i, i + 1, .., n numbers in all.
@@ -45,3 +46,7 @@ select f (x ∷ xs) = let r = select f xs in cond (f x) (x ∷ r) r
 -- l at the front of s, and what is behind stays.
 unfoldable pub overlay : {A : Type 0} → List A → List A → List A
 overlay l s = l ++ drop (length l) s
+
+-- -1, the label of what has none.
+abbrev pub minusOne : ℤ
+minusOne = negsuc 0

@@ -1,20 +1,20 @@
 -- What a move makes of the groups: sums that stand at the lowest member behave as a table by group number, and those that stand at
--- other nodes are not read. Assumes nothing.
+-- other nodes are not read.
 use mathlib.Core.Path.{_≡_, refl, sym, ap, ap₂, _∙_}
 use mathlib.Core.Bool.{Bool, true, false, cond}
 use mathlib.Core.List.{List, [], _∷_}
 use mathlib.Core.Logic.{_≢_}
-use Prim.Native.Nat.{ℕ, suc, _<_, _≤_}
+use Prim.Native.Nat.{ℕ, zero, suc, _+_, _<_, _≤_}
 use native.Mathlib.Decide.{decLt}
 use native.Mathlib.Omega.{arith}
 use borrow.Author.Tests.{eqb-true, eq-eqb}
 use lib.Dec.{eqb}
 use lib.ListN.{length, getD, set, length-set, List·getD-eq-default}
 use lib.Seq.{getD-set-same, getD-set-other}
-use lib.Ieee.{Float}
-use Rattle.float.specs.Binary64.{zero64}
+use lib.Ieee.{Float, nan}
+use Rattle.float.specs.Binary64.{add64, div64, zero64}
 use Rattle.map_state.specs.Network.{Network}
-use Rattle.map_state.specs.MapState.{MapState, statsOf, statsAt, movedBy, applyMove, lowest, count, leads}
+use Rattle.map_state.specs.MapState.{MapState, statsOf, statsAt, movedBy, applyMove, lowest, count, leads, sumQFrom, sumQ}
 use Rattle.map_state.specs.declared.ModuleStats.{ModuleStats}
 use Rattle.map_state.proofs.Leaders.{lowest-of, lowest-other}
 
@@ -116,3 +116,26 @@ unfolding statsAt
 stats-read part xs ys ss ts p q r t e g =
     ap₂ {C = ModuleStats} (λ (x s : Float). record { exit = x; strength = s; «n_nodes» = count g part })
     (read-alike part xs ys p q (λ v h l. e v h l .0) g) (read-alike part ss ts r t (λ v h l. e v h l .1) g)
+
+-- ---- Q asks for the exit weights at lowest members alone, and for nothing else of a partition than which nodes lead
+sumQ-from : (d : Float) (part part' : List ℕ) (xs ys : List Float) (a : Float) (v k : ℕ) → ((i : ℕ) → i < v + k → leads part i ≡ leads part' i)
+    → ((i : ℕ) → i < v + k → leads part i ≡ true → getD xs i nan ≡ getD ys i nan) → sumQFrom d part xs a v k ≡ sumQFrom d part' ys a v k
+unfolding sumQFrom
+sumQ-from d part part' xs ys a v zero l e = refl
+sumQ-from d part part' xs ys a v (suc k) l e =
+    ap (λ (z : Float). sumQFrom d part xs z (suc v) k) (go (leads part v) refl ∙ ap (λ (b : Bool). cond b (add64 a (div64 (getD ys v nan) d)) a) (l v (omega arith)))
+    ∙ sumQ-from d part part' xs ys (cond (leads part' v) (add64 a (div64 (getD ys v nan) d)) a) (suc v) k (λ i h. l i (omega arith)) (λ i h t. e i (omega arith) t)
+  where
+    go : (b : Bool) → leads part v ≡ b → cond b (add64 a (div64 (getD xs v nan) d)) a ≡ cond b (add64 a (div64 (getD ys v nan) d)) a
+    go true t = ap (λ (z : Float). add64 a (div64 z d)) (e v (omega arith) t)
+    go false t = refl
+
+pub sumQ-like : (d : Float) (part part' : List ℕ) (xs ys : List Float) → length part' ≡ length part → ((i : ℕ) → i < length part → leads part i ≡ leads part' i)
+    → ((i : ℕ) → i < length part → leads part i ≡ true → getD xs i nan ≡ getD ys i nan) → sumQ d part xs ≡ sumQ d part' ys
+unfolding sumQ
+sumQ-like d part part' xs ys long l e =
+    sumQ-from d part part' xs ys zero64 0 (length part) (λ i h. l i (omega arith)) (λ i h t. e i (omega arith) t)
+    ∙ ap (λ (n : ℕ). sumQFrom d part' ys zero64 0 n) (sym long)
+
+pub sumQ-ext : (d : Float) (part : List ℕ) (xs ys : List Float) → ((i : ℕ) → i < length part → leads part i ≡ true → getD xs i nan ≡ getD ys i nan) → sumQ d part xs ≡ sumQ d part ys
+sumQ-ext d part xs ys e = sumQ-like d part part xs ys refl (λ i h. refl) e

@@ -1,20 +1,21 @@
--- Lowest members and numbers of members, before and after a move. Assumes nothing.
+-- Lowest members and numbers of members, before and after a move.
 use mathlib.Core.Path.{_≡_, refl, sym, ap, ap₂, _∙_}
 use mathlib.Core.Bool.{Bool, true, false, cond}
-use mathlib.Core.List.{List, [], _∷_}
+use mathlib.Core.List.{List, [], _∷_, map}
 use mathlib.Core.Logic.{_≢_}
 use Prim.Native.Nat.{ℕ, zero, suc, _+_, _-_, _<_, _≤_}
 use native.Mathlib.Numerals.{add-one}
 use native.Mathlib.Omega.{arith}
 use borrow.Author.Tests.{eq-eqb, ne-eqb, eqb-true, eqb-false}
 use lib.Dec.{eqb}
-use lib.ListN.{length, getD, set, length-set, length-map, List·getD-map, List·getD-eq-default}
+use lib.ListN.{length, getD, set, length-set, length-map, List·getD-eq-default}
 use lib.Seq.{ext-getD, getD-set-same, getD-set-other}
 use lib.Ieee.{Float, nan}
+use Rattle.lists.proofs.Maps.{getD-map}
 use Rattle.float.specs.Binary64.{add64, div64, zero64}
 use Rattle.map_state.specs.Network.{Network}
 use Rattle.map_state.specs.MapState.{MapState, movedBy, applyMove, lowest, count, leads, sumQFrom, sumQ, statsAt}
-use Rattle.map_state.specs.Arrays.{stateOf, Firsts, firstsOf, firstAfter, Sized, Rowed}
+use Rattle.map_state.specs.Steps.{stateOf, Firsts, firstsOf, firstAfter, Sized, Rowed}
 use Rattle.map_state.specs.declared.ModuleStats.{ModuleStats}
 use Rattle.map_state.specs.declared.Moved.{Moved}
 
@@ -109,16 +110,8 @@ q-end d part exit a v h =
     let o : length part - v ≡ 0 = omega arith in
     rw o
 
--- what stands past the end does not matter below it
-pub getD-any : {A : Type 0} (l : List A) (i : ℕ) (d e : A) → i < length l → getD l i d ≡ getD l i e
-getD-any [] i d e h = absurd (omega arith)
-getD-any (x ∷ xs) zero d e h = refl
-getD-any (x ∷ xs) (suc i) d e h = getD-any xs i d e (omega arith)
-
 firstsOf-at : (part : List ℕ) (v : ℕ) → v < length part → getD (firstsOf part) v 0 ≡ lowest (getD part v 0) part
-firstsOf-at part v h =
-    let k : v < length (firstsOf part) = rw (length-map part (λ g. lowest g part)) h in
-    getD-any (firstsOf part) v 0 (lowest 0 part) k ∙ List·getD-map (λ g. lowest g part) part v 0
+firstsOf-at part v h = getD-map (λ (g : ℕ). lowest g part) part v 0 0 h
 
 -- a list of the lowest members is the one of the definition
 pub firsts-list : (part first : List ℕ) → length first ≡ length part → Firsts part first → first ≡ firstsOf part

@@ -1,4 +1,4 @@
--- How a loop over the nodes goes on and ends: link weights, lowest member, number of members. Assumes nothing.
+-- How a loop over the nodes goes on and ends: link weights, lowest member, number of members.
 use mathlib.Core.Path.{_≡_}
 use mathlib.Core.List.{List}
 use Prim.Native.Nat.{ℕ, suc, _+_, _<_, _≤_}

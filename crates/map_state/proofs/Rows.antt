@@ -1,4 +1,4 @@
--- The rows of the table, and how the loops over them go on and end. Assumes nothing.
+-- The rows of the table, and how the loops over them go on and end.
 use mathlib.Core.Path.{_≡_, refl, sym, ap, _∙_}
 use mathlib.Core.Bool.{cond}
 use mathlib.Core.List.{List, [], _∷_}
@@ -7,15 +7,29 @@ use native.Mathlib.Nat.{add-zero, sub-zero, zero-sub, suc-sub-suc, add-sub-cance
 use native.Mathlib.Numerals.{add-one}
 use native.Mathlib.Omega.{arith}
 use lib.ListN.{length, getD, take, drop, length-drop, drop-of-length-le}
-use lib.Seq.{drop-cons, drop-drop, ext-getD, length-take-le}
+use lib.Seq.{drop-cons, drop-drop, ext-getD, length-take-le, take-nil}
 use lib.Ieee.{Float, nan, lt}
 use Rattle.float.specs.Binary64.{add64, zero64}
 use Rattle.map_state.specs.Network.{rowAt, addWeights, strengthsFrom, strengthsOf, totalFrom}
-use Rattle.map_state.specs.Arrays.{Rows}
+use Rattle.map_state.specs.Steps.{Rows, Sized}
 
 -- a row ends inside the table
 pub row-inside : (t : List Float) (m n u : ℕ) → Rows t m n → u < n → u * m + n ≤ length t
 row-inside t m n u r h = omega (arith, mul-le-mul-right {m = u + 1} {n = n} m (omega arith), r .wide, r .rows)
+
+-- slices that keep their lengths stay fit
+pub sized-kept : {t : List Float} {m : ℕ} {s : List Float} {part first : List ℕ} {exit str : List Float} {part' first' : List ℕ} {exit' str' : List Float}
+    → Sized t m s part first exit str → length part' ≡ length part → length first' ≡ length first → length exit' ≡ length exit → length str' ≡ length str
+    → Sized t m s part' first' exit' str'
+sized-kept z a b c d = record {
+  few = rw a (z .few);
+  wide = z .wide;
+  nodes = z .nodes ∙ sym a;
+  firsts = b ∙ z .firsts ∙ sym a;
+  exit = c ∙ z .exit ∙ sym a;
+  sums = d ∙ z .sums ∙ sym a;
+  rows = λ u h. rw a (z .rows u (rw a at h));
+}
 
 -- a row as the code lends it
 pub lent : (table : List Float) (s n : ℕ) → s + n ≤ length table → length (take (s + n - s) (drop s table)) ≡ n
@@ -24,10 +38,7 @@ lent table s n h = rw (add-sub-cancel-left, length-take-le n (drop s table) (sim
 drop-take : (k n : ℕ) (l : List Float) → drop k (take n l) ≡ take (n - k) (drop k l)
 drop-take zero n l = rw sub-zero
 drop-take (suc k) zero l = rw zero-sub
-drop-take (suc k) (suc n) [] = rw suc-sub-suc (none (n - k)) where
-  none : (i : ℕ) → _≡_ {A = List Float} [] (take i [])
-  none zero = refl
-  none (suc i) = refl
+drop-take (suc k) (suc n) [] = rw suc-sub-suc (sym (take-nil (n - k)))
 drop-take (suc k) (suc n) (x ∷ xs) = rw suc-sub-suc (drop-take k n xs)
 
 -- the part of u's row above u, as the code lends it

@@ -1,3 +1,3 @@
 pub mod Network
 pub mod MapState
-pub mod Arrays
+pub mod Steps

@@ -37,7 +37,7 @@ unfoldable pub leads : List ℕ → ℕ → Bool
 leads part v = eqb (lowest (getD part v 0) part) v
 
 -- A group's exit weight, strength and number of nodes; an empty group's are 0. Sums are read at the nodes that lead a group and at no
--- other: here (`stats-read` in map_state/proofs/Groups.antt) and in Q (`sumQ-ext` in whole/proofs/Carried.antt).
+-- other (map_state/proofs/Groups.antt): here by `stats-read`, in Q by `sumQ-ext`.
 unfoldable pub statsAt : List ℕ → List Float → List Float → ℕ → ModuleStats
 statsAt part exits strengths g = record { exit = getD exits (lowest g part) zero64; strength = getD strengths (lowest g part) zero64; «n_nodes» = count g part }
 
@@ -113,9 +113,9 @@ deltaMove net s u h = deltaFrom net (s .partition) (s .qExit) u h (statsOf s (ge
 
 -- ---- a move
 
--- A group's value put at its lowest member; nowhere where the group is empty.
-abbrev pub put : List ℕ → List Float → ℕ → Float → List Float
-put part xs g x = set xs (lowest g part) x
+-- A group's value stored at its lowest member; nowhere where the group is empty.
+abbrev pub storeAt : List ℕ → List Float → ℕ → Float → List Float
+storeAt part xs g x = set xs (lowest g part) x
 
 -- `apply_move`: u moves to h, a group other than its own. The sums of a group that is emptied are forgotten; Q is summed anew.
 -- Where a group has got another lowest member, its old sums stay at a node that no longer leads: they are never read (see `statsAt`),
@@ -126,10 +126,10 @@ applyMove net s u h =
     let g = getD (s .partition) u 0 in
     let m = movedBy net s u h in
     let part = set (s .partition) u h in
-    let exits = put part (put part (s .exits) g (m .src .exit)) h (m .dest .exit) in
+    let exits = storeAt part (storeAt part (s .exits) g (m .src .exit)) h (m .dest .exit) in
     record {
       partition = part;
       exits = exits;
-      strengths = put part (put part (s .strengths) g (m .src .strength)) h (m .dest .strength);
+      strengths = storeAt part (storeAt part (s .strengths) g (m .src .strength)) h (m .dest .strength);
       qExit = sumQ (net .d) part exits;
     }

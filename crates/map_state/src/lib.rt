@@ -4,14 +4,14 @@
 // element a node: `partition`, the internal number of the node's group; `first`, the lowest member of that group; `exits` and
 // `strengths`, a group's sums, at its lowest member.
 ghost use mathlib.Core.Path.{_≡_};
-ghost use Prim.Native.Nat.{ℕ, _+_, _-_, _*_, _<_, _≤_};
+ghost use Prim.Native.Nat.{_+_, _-_, _*_, _<_, _≤_};
 ghost use mathlib.Core.Bool.{cond};
 ghost use lib.ListN.{length, getD, set};
 ghost use lib.Ieee.{Float, lt};
 ghost use Rattle.float.specs.Binary64.{add64, zero64};
 ghost use Rattle.map_state.specs.Network.{addWeights, strengthsOf, totalWeight};
-ghost use Rattle.map_state.specs.MapState.{addLink, linkWeights, lowest, count, afterMove, moduleTerms, modulePairDelta, statsAt, sumQ, movedFrom, deltaFrom, applyMove};
-ghost use Rattle.map_state.specs.Arrays.{netOf, stateOf, Firsts, Rows, Sized, Rowed, firstAfter};
+ghost use Rattle.map_state.specs.MapState.{addLink, linkWeights, lowest, count, afterMove, moduleTerms, modulePairDelta, statsAt, sumQ, movedFrom, deltaFrom};
+ghost use Rattle.map_state.specs.Steps.{netOf, stateOf, Firsts, Rows, Rowed, firstAfter, Summed, AtNode, Renewed, MoveSums, MovedTo};
 
 // The weights from a node into its own group, into another, and elsewhere.
 pub struct Links {
@@ -32,12 +32,6 @@ pub struct Moved {
     pub src: ModuleStats,
     pub dest: ModuleStats,
     pub delta_exit: f64,
-}
-
-pub fn wide(x: u32) -> usize
-    ensures { λ r. ⌜ r ≡ x ⌝ }
-{
-    x as usize
 }
 
 fn add_weight(a: f64, w: f64) -> f64
@@ -211,7 +205,7 @@ fn module_pair_delta_l(d: f64, q: f64, src: ModuleStats, dest: ModuleStats, m: M
 
 // A group's sums, from the place where they stand.
 fn stats_at(partition: &[u32], exits: &[f64], strengths: &[f64], slot: usize, g: u32) -> ModuleStats
-    requires { ⌜ (length (now partition) ≤ 512) × (length (now exits) ≡ length (now partition)) × (length (now strengths) ≡ length (now partition)) × (slot < length (now partition)) × (slot ≡ lowest g (now partition)) ⌝ }
+    requires { ⌜ (Summed (now partition) (now exits) (now strengths)) × (slot < length (now partition)) × (slot ≡ lowest g (now partition)) ⌝ }
     ensures { λ r. ⌜ r ≡ statsAt (now (partition .entry)) (now (exits .entry)) (now (strengths .entry)) g ⌝ }
 {
     ModuleStats {
@@ -229,15 +223,22 @@ pub fn own_stats(
     strengths: &[f64],
     v: usize,
 ) -> ModuleStats
-    requires { ⌜ (length (now partition) ≤ 512) × (length (now first) ≡ length (now partition)) × (length (now exits) ≡ length (now partition)) × (length (now strengths) ≡ length (now partition)) × (v < length (now partition)) × (Firsts (now partition) (now first)) ⌝ }
+    requires { ⌜ (Summed (now partition) (now exits) (now strengths)) × (length (now first) ≡ length (now partition))
+        × (v < length (now partition)) × (Firsts (now partition) (now first)) ⌝ }
     ensures { λ r. ⌜ r ≡ statsAt (now (partition .entry)) (now (exits .entry)) (now (strengths .entry)) (getD (now (partition .entry)) v 0) ⌝ }
 {
-    stats_at(partition, exits, strengths, wide(first[v]), partition[v])
+    stats_at(
+        partition,
+        exits,
+        strengths,
+        lists::wide(first[v]),
+        partition[v],
+    )
 }
 
 // A group's sums, wherever they stand; an empty group's are 0.
 pub fn find_stats(partition: &[u32], exits: &[f64], strengths: &[f64], g: u32) -> ModuleStats
-    requires { ⌜ (length (now partition) ≤ 512) × (length (now exits) ≡ length (now partition)) × (length (now strengths) ≡ length (now partition)) ⌝ }
+    requires { ⌜ Summed (now partition) (now exits) (now strengths) ⌝ }
     ensures { λ r. ⌜ r ≡ statsAt (now (partition .entry)) (now (exits .entry)) (now (strengths .entry)) g ⌝ }
 {
     let a = lowest(partition, g);
@@ -268,7 +269,7 @@ pub fn sum_q(partition: &[u32], first: &[u32], exits: &[f64], d: f64) -> f64
     let mut a = 0.0;
     let mut v = 0;
     while v < partition.len() {
-        a = add_if(wide(first[v]) == v, a, exits[v] / d);
+        a = add_if(lists::wide(first[v]) == v, a, exits[v] / d);
         v += 1;
     }
     a
@@ -315,7 +316,7 @@ pub fn delta_move(
 }
 
 // Sets an element; nothing past the end.
-fn put(xs: &mut [f64], v: usize, x: f64)
+fn store(xs: &mut [f64], v: usize, x: f64)
     ensures { λ _. ⌜ now (xs .exit) ≡ set (now (xs .entry)) v x ⌝ }
 {
     if v < xs.len() {
@@ -338,7 +339,7 @@ fn first_after(x: u32, g: u32, a: u32, h: u32, b: u32, f: u32) -> u32
 // Gives the members of the groups g and h their lowest members anew.
 fn renew_first(partition: &[u32], first: &mut [u32], g: u32, a: u32, h: u32, b: u32)
     requires { ⌜ length (now first) ≡ length (now partition) ⌝ }
-    ensures { λ _. ⌜ ((v : ℕ) → v < length (now (partition .entry)) → getD (now (first .exit)) v 0 ≡ firstAfter (getD (now (partition .entry)) v 0) g a h b (getD (now (first .entry)) v 0)) ⌝ }
+    ensures { λ _. ⌜ Renewed (now (partition .entry)) (now (first .entry)) (now (first .exit)) g a h b ⌝ }
 {
     let mut v = 0;
     while v < partition.len() {
@@ -362,8 +363,11 @@ pub fn apply_move(
     src: ModuleStats,
     dest: ModuleStats,
 ) -> f64
-    requires { ⌜ (Sized (now table) stride (now strength) (now partition) (now first) (now exits) (now strengths)) × (u < length (now partition)) × (src ≡ statsAt (now partition) (now exits) (now strengths) (getD (now partition) u 0)) × (dest ≡ statsAt (now partition) (now exits) (now strengths) h) × (Firsts (now partition) (now first)) ⌝ }
-    ensures { λ r. ⌜ ((q : Float) → stateOf (now (partition .exit)) (now (exits .exit)) (now (strengths .exit)) r ≡ applyMove (netOf (now (table .entry)) stride (now (strength .entry)) d) (stateOf (now (partition .entry)) (now (exits .entry)) (now (strengths .entry)) q) u h) × Firsts (now (partition .exit)) (now (first .exit)) ⌝ }
+    requires { ⌜ (AtNode (now table) stride (now strength) (now partition) (now first) (now exits) (now strengths) u)
+        × (MoveSums (now partition) (now exits) (now strengths) u h src dest) ⌝ }
+    ensures { λ r. ⌜ (MovedTo (netOf (now (table .entry)) stride (now (strength .entry)) d) (now (partition .entry)) (now (exits .entry)) (now (strengths .entry)) u h
+        (stateOf (now (partition .exit)) (now (exits .exit)) (now (strengths .exit)) r))
+        × Firsts (now (partition .exit)) (now (first .exit)) ⌝ }
 {
     let g = partition[u];
     let mv = move_of(table, stride, strength, partition, u, h, src, dest);
@@ -373,9 +377,9 @@ pub fn apply_move(
     let a = lowest(partition, g);
     let b = lowest(partition, h);
     renew_first(partition, first, g, a as u32, h, b as u32);
-    put(exits, a, src2.exit);
-    put(exits, b, dest2.exit);
-    put(strengths, a, src2.strength);
-    put(strengths, b, dest2.strength);
+    store(exits, a, src2.exit);
+    store(exits, b, dest2.exit);
+    store(strengths, a, src2.strength);
+    store(strengths, b, dest2.strength);
     sum_q(partition, first, exits, d)
 }

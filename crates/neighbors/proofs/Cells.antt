@@ -9,7 +9,7 @@ use native.Mathlib.Omega.{arith}
 use lib.ListN.{length, getD, set}
 use lib.Seq.{getD-set-same, getD-set-other}
 use lib.Ieee.{Float, nan}
-use Rattle.neighbors.specs.Tables.{Tabled}
+use Rattle.neighbors.specs.StepsTables.{Tabled, Square}
 
 -- A row lies before the next.
 pub row-before : (n a i : ℕ) → a < i → a * n + n ≤ i * n
@@ -38,7 +38,8 @@ unfolding Tabled
 tabled-none f n t a b p q h = absurd (omega (arith, zero-mul n))
 
 -- One cell more.
-pub tabled-on : (f : ℕ → ℕ → Float) (n : ℕ) (t : List Float) (i j : ℕ) {v : Float} → Tabled f n t (i * n + j) → j < n → i * n + j < length t → v ≡ f i j → Tabled f n (set t (i * n + j) v) (i * n + (j + 1))
+pub tabled-on : (f : ℕ → ℕ → Float) (n : ℕ) (t : List Float) (i j : ℕ) {v : Float} → Tabled f n t (i * n + j) → j < n → i * n + j < length t
+    → v ≡ f i j → Tabled f n (set t (i * n + j) v) (i * n + (j + 1))
 unfolding Tabled
 tabled-on f n t i j {v} h q l e a b x y k = go (ℕ-discrete (a * n + b) (i * n + j))
   where
@@ -65,3 +66,7 @@ few-cells n a b h p q = let r : n * n ≤ 512 * 512 = mul-le-mul h h in omega (a
 pub tabled-less : (f : ℕ → ℕ → Float) (n : ℕ) (t : List Float) (k m : ℕ) → Tabled f n t k → m ≤ k → Tabled f n t m
 unfolding Tabled
 tabled-less f n t k m h l a b x y q = h a b x y (omega arith)
+
+-- A table of another content and the same length.
+pub square-as : {xs ys : List Float} {cs : List ℕ} {t s : List Float} → Square xs ys cs t → length s ≡ length t → Square xs ys cs s
+square-as q e = record { ordinates = q .ordinates; counts = q .counts; cells = e ∙ q .cells; few = q .few }

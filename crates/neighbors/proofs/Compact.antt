@@ -8,10 +8,10 @@ use native.Mathlib.Omega.{arith}
 use lib.ListN.{length, getD, set}
 use lib.Seq.{getD-set-other}
 use lib.Ieee.{Float, nan}
-use Rattle.neighbors.specs.Tables.{Rising, Compacted}
+use Rattle.neighbors.specs.StepsTables.{RowNumbers, Compacted}
 use Rattle.neighbors.proofs.Cells.{in-table, few-cells, tabled-none, tabled-less, tabled-on}
 
-module _ (n : ℕ) (ns : List ℕ) (r : Rising n ns) where
+module _ (n : ℕ) (ns : List ℕ) (r : RowNumbers n ns) where
   abbrev k : ℕ
   k = length ns
 
@@ -39,7 +39,8 @@ module _ (n : ℕ) (ns : List ℕ) (r : Rising n ns) where
     pub target-few : n ≤ 512 → u * k + v < 262144
     target-few h = let a = read-later u v p q in let b = few-cells n (getD ns u 0) (getD ns v 0) h (r .below u p) (r .below v q) in omega arith
 
-    pub compact-on : (t s : List Float) → Compacted n ns t s (u * k + v) → n * n ≤ length s → Compacted n ns t (set s (u * k + v) (getD s (i * n + j) nan)) (u * k + (v + 1))
+    pub compact-on : (t s : List Float) → Compacted n ns t s (u * k + v) → n * n ≤ length s
+        → Compacted n ns t (set s (u * k + v) (getD s (i * n + j) nan)) (u * k + (v + 1))
     compact-on t s c l = record {
       moved = tabled-on _ k s u v (c .moved) q (let b = in-target u v p q in omega arith) (rw (x, y) (c .rest (getD ns u 0 * n + getD ns v 0) (read-later u v p q)));
       rest = λ w h. getD-set-other s (u * k + v) w (getD s (i * n + j) nan) nan (λ e. omega arith) ∙ c .rest w (omega arith);
@@ -51,8 +52,10 @@ compact-none n ns t = record { moved = tabled-none _ (length ns) t; rest = λ i 
 pub compact-less : (n : ℕ) (ns : List ℕ) (t s : List Float) (k m : ℕ) → Compacted n ns t s k → k ≡ m → Compacted n ns t s m
 compact-less n ns t s k m c e = record { moved = tabled-less _ (length ns) s k m (c .moved) (omega arith); rest = λ i h. c .rest i (omega arith) }
 
-pub compact-row : (n : ℕ) (ns : List ℕ) (t s : List Float) (u v : ℕ) → Compacted n ns t s (u * length ns + v) → v ≤ length ns → length ns ≤ v → Compacted n ns t s ((u + 1) * length ns)
+pub compact-row : (n : ℕ) (ns : List ℕ) (t s : List Float) (u v : ℕ) → Compacted n ns t s (u * length ns + v) → v ≤ length ns → length ns ≤ v
+    → Compacted n ns t s ((u + 1) * length ns)
 compact-row n ns t s u v c h k = compact-less n ns t s (u * length ns + v) ((u + 1) * length ns) c (rw (add-one u, suc-mul u (length ns)) (omega arith))
 
-pub compact-all : (n : ℕ) (ns : List ℕ) (t s : List Float) (u : ℕ) → Compacted n ns t s (u * length ns) → u ≤ length ns → length ns ≤ u → Compacted n ns t s (length ns * length ns)
+pub compact-all : (n : ℕ) (ns : List ℕ) (t s : List Float) (u : ℕ) → Compacted n ns t s (u * length ns) → u ≤ length ns → length ns ≤ u
+    → Compacted n ns t s (length ns * length ns)
 compact-all n ns t s u c h k = compact-less n ns t s (u * length ns) (length ns * length ns) c (let e : u ≡ length ns = omega arith in rw e)

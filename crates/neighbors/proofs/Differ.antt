@@ -1,4 +1,4 @@
--- The places of medians differ: of two with different numbers a bit pattern differs. Assumes nothing.
+-- The places of medians differ: of two with different numbers a bit pattern differs.
 use mathlib.Core.Path.{_≡_, refl, sym, ap₂, _∙_, subst}
 use mathlib.Core.Logic.{_≢_}
 use mathlib.Core.Bool.{Bool, true, false, _&&_, cond}
@@ -12,6 +12,8 @@ use Rattle.lists.proofs.Tests.{eqb-like}
 use Rattle.float.specs.Binary64.{sameBits}
 use Rattle.distance.specs.declared.Point.{Point}
 use Rattle.neighbors.specs.Places.{samePlace, Place, sighted, sightedAll, places, noPlace, placeAt, AllDiffer}
+-- Named so that the example is checked before these lemmas.
+use Rattle.neighbors.specs.Examples
 
 bits-swap : (x y : Float) → sameBits x y ≡ sameBits y x
 unfolding sameBits
@@ -50,11 +52,13 @@ behind-sighted (p ∷ ps) m h i j a l = go (samePlace (p .at) m) refl i j a l (b
     after : Bool → List Place
     after b = cond b (record { at = p .at; count = suc (p .count) } ∷ ps) (p ∷ sighted ps m)
 
-    go : (b : Bool) → samePlace (p .at) m ≡ b → (i j : ℕ) → i < j → j < length (after b) → Behind (sighted ps m) → samePlace (placeAt (after b) i .at) (placeAt (after b) j .at) ≡ false
+    go : (b : Bool) → samePlace (p .at) m ≡ b → (i j : ℕ) → i < j → j < length (after b) → Behind (sighted ps m)
+        → samePlace (placeAt (after b) i .at) (placeAt (after b) j .at) ≡ false
     go b e i zero a l ih = absurd (omega arith)
     go true e zero (suc j) a l ih = h 0 (suc j) (omega arith) (omega arith)
     go true e (suc i) (suc j) a l ih = h (suc i) (suc j) (omega arith) (omega arith)
-    go false e zero (suc j) a l ih = each-sighted (λ (q : Point). samePlace (p .at) q ≡ false) ps m (λ k q. h 0 (suc k) (omega arith) (omega arith)) e j (omega arith)
+    go false e zero (suc j) a l ih =
+        each-sighted (λ (q : Point). samePlace (p .at) q ≡ false) ps m (λ k q. h 0 (suc k) (omega arith) (omega arith)) e j (omega arith)
     go false e (suc i) (suc j) a l ih = ih i j (omega arith) (omega arith)
 
 behind-from : (ps : List Place) (ms : List Point) → Behind ps → Behind (sightedAll ps ms)

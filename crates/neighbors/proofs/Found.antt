@@ -1,30 +1,18 @@
 -- A median's place is found again, and every place has a stay.
 use mathlib.Core.Path.{_≡_, refl, sym, _∙_, subst}
-use mathlib.Core.Logic.{_⊎_, inl, inr}
+use mathlib.Core.Logic.{inl, inr}
 use mathlib.Core.Bool.{Bool, true, false, cond}
-use mathlib.Core.List.{List, [], _∷_, _++_}
-use Prim.Native.Nat.{ℕ, zero, suc, _+_, _<_, _≤_}
+use mathlib.Core.List.{List, [], _∷_}
+use Prim.Native.Nat.{ℕ, zero, suc, _<_, _≤_}
 use native.Mathlib.Nat.{zero-lt-suc}
 use native.Mathlib.Omega.{arith}
 use lib.ListN.{length}
 use Rattle.distance.specs.declared.Point.{Point}
-use Rattle.neighbors.specs.Places.{Place, samePlace, placeOf, sighted, sightedAll, places, stayCount, placeAt}
+use Rattle.neighbors.specs.Places.{Place, samePlace, placeOf, sighted, sightedAll, places, placeAt}
+use Rattle.neighbors.specs.StepsPlaces.{stayCount}
 use Rattle.neighbors.proofs.SameBits.{same-self}
+use Rattle.lists.proofs.Items.{Among}
 use Rattle.neighbors.proofs.Sighted.{counted-all, count-le, longer-all}
-
--- m is one of the medians.
-abbrev pub Among : List Point → Point → Type 0
-Among [] m = ⊥
-Among (p ∷ ps) m = (m ≡ p) ⊎ Among ps m
-
-pub among-left : (a b : List Point) (m : Point) → Among a m → Among (a ++ b) m
-among-left [] b m h = absurd h
-among-left (p ∷ a) b m (inl e) = inl e
-among-left (p ∷ a) b m (inr h) = inr (among-left a b m h)
-
-pub among-right : (a b : List Point) (m : Point) → Among b m → Among (a ++ b) m
-among-right [] b m h = h
-among-right (p ∷ a) b m h = inr (among-right a b m h)
 
 abbrev pub Placed : List Place → Point → Type 0
 Placed ps m = placeOf ps m < length ps

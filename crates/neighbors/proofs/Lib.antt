@@ -2,6 +2,7 @@ pub mod SameBits
 pub mod Search
 pub mod Sighted
 pub mod Within
+pub mod Laid
 pub mod Distinct
 pub mod Found
 pub mod Differ

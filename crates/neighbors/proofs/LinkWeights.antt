@@ -9,15 +9,20 @@ use borrow.Author.Tests.{lt-ltb}
 use lib.Dec.{lit≤}
 use lib.ListN.{length}
 use lib.Ieee.{Float, lt, ofBits}
-use Rattle.lists.specs.Sums.{sum}
-use Rattle.lists.proofs.Sums.{sum-times}
+use Rattle.lists.proofs.Sums.{sum, sum-times}
 use Rattle.float.specs.Binary64.{whole64, zero64}
 use Rattle.float.proofs.Exact.{most, whole-lt, zero-whole}
-use Rattle.neighbors.specs.Places.{Place, placeAt, stayCount}
-use Rattle.neighbors.specs.Links.{Metric, link, weight, wholeWeight}
+use Rattle.neighbors.specs.Places.{Place, placeAt}
+use Rattle.neighbors.specs.StepsPlaces.{stayCount}
+use Rattle.distance.specs.Distance.{Metric}
+use Rattle.neighbors.specs.Links.{link, weight}
 use Rattle.neighbors.proofs.Found.{Counted}
 use Rattle.neighbors.proofs.Sighted.{count-le}
 use Rattle.neighbors.proofs.Linked.{link-self, link-sym}
+
+-- The weight of a link as a whole number; 0 for no link.
+unfoldable pub wholeWeight : Metric → Float → List Place → ℕ → ℕ → ℕ
+wholeWeight dist r2 ps i j = cond (link dist r2 ps i j) (max (placeAt ps i .count) (placeAt ps j .count)) 0
 
 -- ---- whole numbers above 0
 
@@ -34,7 +39,9 @@ module _ (dist : Metric) (r2 : Float) (ps : List Place) where
   unfolding weight wholeWeight
   weight-whole i j = go (link dist r2 ps i j)
     where
-      go : (b : Bool) → cond b (whole64 (max (placeAt ps i .count) (placeAt ps j .count))) zero64 ≡ whole64 (cond b (max (placeAt ps i .count) (placeAt ps j .count)) 0)
+      go : (b : Bool)
+          → cond b (whole64 (max (placeAt ps i .count) (placeAt ps j .count))) zero64 ≡ whole64
+          (cond b (max (placeAt ps i .count) (placeAt ps j .count)) 0)
       go true = refl
       go false = zero-whole
 
@@ -74,5 +81,6 @@ module _ (dist : Metric) (r2 : Float) (ps : List Place) where
   pub weights-few : (f : ℕ → ℕ) (n : ℕ) → n ≤ 512 → stayCount ps ≤ 65536 → sum n (λ u. sum n (λ v. wholeWeight dist r2 ps (f u) (f v))) ≤ 2 ^ 36
   weights-few f n h k =
       let a : sum n (λ u. sum n (λ v. wholeWeight dist r2 ps (f u) (f v))) ≤ n * (n * stayCount ps) =
-      sum-times n (n * stayCount ps) (λ u. sum n (λ v. wholeWeight dist r2 ps (f u) (f v))) (λ u p. sum-times n (stayCount ps) (λ v. wholeWeight dist r2 ps (f u) (f v)) (λ v q. whole-le (f u) (f v))) in
+      sum-times n (n * stayCount ps) (λ u. sum n (λ v. wholeWeight dist r2 ps (f u) (f v))) (λ u p. sum-times n (stayCount ps)
+      (λ v. wholeWeight dist r2 ps (f u) (f v)) (λ v q. whole-le (f u) (f v))) in
       le-trans a (le-trans (mul-le-mul h (mul-le-mul h k)) (lit≤ tt))

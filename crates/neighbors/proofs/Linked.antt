@@ -15,7 +15,8 @@ use Rattle.lists.proofs.Tests.{eqb-self}
 use Rattle.float.specs.Binary64.{whole64, zero64}
 use Rattle.distance.specs.declared.Point.{Point}
 use Rattle.neighbors.specs.Places.{Place, placesIn, placeAt}
-use Rattle.neighbors.specs.Links.{Metric, apart, link, weight}
+use Rattle.distance.specs.Distance.{Metric}
+use Rattle.neighbors.specs.Links.{apart, link, weight}
 
 module _ (dist : Metric) (r2 : Float) (ps : List Place) where
   apart-sym : (i j : ℕ) → i ≢ j → apart dist ps i j ≡ apart dist ps j i
@@ -49,7 +50,9 @@ module _ (dist : Metric) (r2 : Float) (ps : List Place) where
   weight-sym i j = rw (link-sym i j, max-comm (placeAt ps i .count) (placeAt ps j .count))
 
   -- The weight of a pair, lower number first.
-  pub weight-pair : (i j : ℕ) → i < j → weight dist r2 ps i j ≡ cond (le (dist (placeAt ps i .at) (placeAt ps j .at)) r2) (whole64 (max (placeAt ps i .count) (placeAt ps j .count))) zero64
+  pub weight-pair : (i j : ℕ) → i < j
+      → weight dist r2 ps i j ≡ cond (le (dist (placeAt ps i .at) (placeAt ps j .at)) r2) (whole64 (max (placeAt ps i .count) (placeAt ps j .count)))
+      zero64
   unfolding weight link apart
   weight-pair i j h = rw (ne-eqb i j (λ e. omega arith), le-leb i j (omega arith))
 
@@ -73,19 +76,14 @@ module _ (dist : Metric) (r2 : Float) (xs ys : List Float) (cs : List ℕ) (i j 
   cell-same e = sym (subst (λ (z : ℕ). W i z ≡ zero64) e (weight-self dist r2 (placesIn xs ys cs) i))
 
   pub cell-pair : {w : Float} → length ys ≡ length xs → length cs ≡ length xs → i < length xs → j < length xs → i ≤ j → (i ≡ j → ⊥)
-      → w ≡ cond (le (dist (record { x = getD xs i nan; y = getD ys i nan }) (record { x = getD xs j nan; y = getD ys j nan })) r2) (whole64 (max (getD cs i 0) (getD cs j 0))) zero64
+      → w ≡ cond (le (dist (record { x = getD xs i nan; y = getD ys i nan }) (record { x = getD xs j nan; y = getD ys j nan })) r2)
+      (whole64 (max (getD cs i 0) (getD cs j 0))) zero64
       → w ≡ W i j
   cell-pair p q h k l d e =
       let a = place-in xs ys cs i p q h in
       let b = place-in xs ys cs j p q k in
-      e ∙ sym (weight-pair dist r2 (placesIn xs ys cs) i j (lt l d) ∙ rw (a, b))
-    where
-      lt : i ≤ j → (i ≡ j → ⊥) → i < j
-      lt l d = go (decLt i j)
-        where
-          go : Dec (i < j) → i < j
-          go (yes h) = h
-          go (no h) = absurd (d (omega arith))
+      let before : i < j = let n : i ≢ j = d in omega arith in
+      e ∙ sym (weight-pair dist r2 (placesIn xs ys cs) i j before ∙ rw (a, b))
 
 -- `pair_weight`, by its two ways.
 module _ (dist : Metric) (p q : Point) (c d : ℕ) (r2 : Float) {x : Float} (e : x ≡ dist p q) where

@@ -13,9 +13,11 @@ use Rattle.lists.proofs.Upto.{length-upto, upto-has, has-upto}
 use Rattle.lists.proofs.Members.{has-at, any-has, has-any, any-like, select-like, select-has, select-true, select-in, select-length, select-at-least, select-position}
 use Rattle.float.specs.Binary64.{zero64}
 use Rattle.float.proofs.Exact.{most}
-use Rattle.neighbors.specs.Places.{Place, stayCount}
-use Rattle.neighbors.specs.Links.{Metric, link, weight, linked, nodes, singles}
-use Rattle.neighbors.specs.Tables.{Tabled, hasWeight, rowsWithWeight, Rising}
+use Rattle.neighbors.specs.Places.{Place}
+use Rattle.neighbors.specs.StepsPlaces.{stayCount}
+use Rattle.distance.specs.Distance.{Metric}
+use Rattle.neighbors.specs.Links.{link, weight, linked, nodes, singles}
+use Rattle.neighbors.specs.StepsTables.{Tabled, hasWeight, rowsWithWeight, RowNumbers}
 use Rattle.neighbors.proofs.Cells.{in-table, tabled-at}
 use Rattle.neighbors.proofs.Found.{Counted}
 use Rattle.neighbors.proofs.LinkWeights.{weight-above}
@@ -77,18 +79,20 @@ module _ (dist : Metric) (r2 : Float) (ps : List Place) where
   unfolding nodes
   nodes-few = let a = select-length (linked dist r2 ps) (upto (length ps)) in let b = length-upto (length ps) in omega arith
 
-  pub nodes-rise : Rising (length ps) ns
+  pub nodes-rise : RowNumbers (length ps) ns
   nodes-rise = record { few = nodes-few; above = above; below = λ u h. node-lt (getD ns u 0) (node-at u h) }
     where
       above : (u : ℕ) → u < length ns → u ≤ getD ns u 0
       above u h = unfold nodes in select-at-least (linked dist r2 ps) (length ps) u h
 
   -- The rows with a weight above 0 are the nodes.
-  pub rows-nodes : (t : List Float) → Tabled (weight dist r2 ps) (length ps) t (length ps * length ps) → Counted ps → stayCount ps ≤ most → rowsWithWeight (length ps) t ≡ ns
+  pub rows-nodes : (t : List Float) → Tabled (weight dist r2 ps) (length ps) t (length ps * length ps) → Counted ps → stayCount ps ≤ most
+      → rowsWithWeight (length ps) t ≡ ns
   unfolding rowsWithWeight nodes
   rows-nodes t w c k = select-like (hasWeight (length ps) t) (linked dist r2 ps) (upto (length ps)) (λ i m. one i (has-upto (length ps) i m))
     where
       one : (i : ℕ) → i < length ps → hasWeight (length ps) t i ≡ linked dist r2 ps i
       one i h = unfold hasWeight linked in any-like (λ j. lt zero64 (getD t (i * length ps + j) nan)) (link dist r2 ps i) (upto (length ps))
           (λ j m. let l = has-upto (length ps) j m in
-          ap (lt zero64) (tabled-at (weight dist r2 ps) (length ps) t (length ps * length ps) i j w h l (in-table (length ps) i j h l)) ∙ weight-above dist r2 ps i j c k h)
+          ap (lt zero64) (tabled-at (weight dist r2 ps) (length ps) t (length ps * length ps) i j w h l (in-table (length ps) i j h l))
+          ∙ weight-above dist r2 ps i j c k h)

@@ -1,20 +1,16 @@
 -- Bit patterns of values that the format holds.
 use mathlib.Core.Path.{_≡_, refl, sym, ap, _∙_, subst}
-use mathlib.Core.Bool.{Bool, true, false, not, _&&_}
+use mathlib.Core.Bool.{Bool, true, false, _&&_}
 use borrow.Author.Tests.{eq-eqb, ne-eqb}
 use lib.Dec.{T, eqb}
-use lib.Ieee.{Float, nan, inf, fin, binary64, ne, fits, isNan, toBits}
-use lib.Ieee.Compare.{differs-from-itself, nan-differs}
+use lib.Ieee.{Float, nan, binary64, ne, fits, toBits}
+use lib.Ieee.Compare.{differs-from-itself}
 use Rattle.float.specs.Binary64.{sameBits}
 use Rattle.float.proofs.SameBits.{bits-same, same-bits-refl}
 use Rattle.neighbors.specs.Places.{samePlace}
+-- Named so that the example is checked before these lemmas.
+use Rattle.neighbors.specs.Examples
 use Rattle.distance.specs.declared.Point.{Point}
-
-pub no-nan : (x : Float) → ne x x ≡ false → T (not (isNan x))
-unfolding isNan
-no-nan nan h = subst T (sym nan-differs ∙ h) tt
-no-nan (inf s) h = tt
-no-nan (fin s m e) h = tt
 
 -- A NaN has the pattern of a NaN alone.
 pub nan-left : (x y : Float) → T (fits binary64 x) → T (fits binary64 y) → ne x x ≡ true → ne y y ≡ sameBits x y
@@ -30,7 +26,9 @@ nan-left x y f g h = go (ne y y) refl
 
 pub nan-right : (x y : Float) → T (fits binary64 x) → T (fits binary64 y) → ne x x ≡ false → ne y y ≡ true → false ≡ sameBits x y
 unfolding sameBits
-nan-right x y f g h k = sym (ne-eqb (toBits binary64 x) (toBits binary64 y) (λ p. absurd (subst T (sym k ∙ ap (λ (z : Float). ne z z) (sym (bits-same x y f g p)) ∙ h) tt)))
+nan-right x y f g h k =
+    sym (ne-eqb (toBits binary64 x) (toBits binary64 y) (λ p. absurd (subst T (sym k ∙ ap (λ (z : Float). ne z z) (sym (bits-same x y f g p))
+    ∙ h) tt)))
 
 -- Two medians, coordinate by coordinate.
 pub both-same : (a b : Point) {s t : Bool} → s ≡ sameBits (a .x) (b .x) → s ≡ true → t ≡ sameBits (a .y) (b .y) → t ≡ samePlace a b

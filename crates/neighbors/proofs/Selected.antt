@@ -59,7 +59,8 @@ select-on f n l₀ l k i {t} {r} {m} s h p e w = go t e (w .0) (w .1)
     }
     go false e x y = record { found = s .found; all = s .all ∙ rw (left-over n i h, ← e, add-one i); laid = y ∙ s .laid; many = x ∙ s .many; few = omega (arith, s .few) }
 
-pub select-end : (f : ℕ → Bool) (n : ℕ) (l₀ l : List ℕ) (k i : ℕ) {ns : List ℕ} → ns ≡ select f (upto n) → Selected f n l₀ l k i → n ≤ i → (k ≡ length ns) × (l ≡ overlay ns l₀)
+pub select-end : (f : ℕ → Bool) (n : ℕ) (l₀ l : List ℕ) (k i : ℕ) {ns : List ℕ} → ns ≡ select f (upto n) → Selected f n l₀ l k i → n ≤ i
+    → (k ≡ length ns) × (l ≡ overlay ns l₀)
 unfolding select from
 select-end f n l₀ l k i {ns} q s h =
     let z : n - i ≡ 0 = omega arith in

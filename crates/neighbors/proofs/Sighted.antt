@@ -7,7 +7,8 @@ use native.Mathlib.Omega.{arith}
 use lib.ListN.{length, getD, set}
 use lib.Ieee.{Float}
 use Rattle.distance.specs.declared.Point.{Point}
-use Rattle.neighbors.specs.Places.{Place, samePlace, placeOf, sighted, sightedAll, stayCount, placesIn, placeAt}
+use Rattle.neighbors.specs.Places.{Place, samePlace, placeOf, sighted, sightedAll, placesIn, placeAt}
+use Rattle.neighbors.specs.StepsPlaces.{stayCount}
 
 pub length-placesIn : (xs ys : List Float) (cs : List ℕ) → length ys ≡ length xs → length cs ≡ length xs → length (placesIn xs ys cs) ≡ length xs
 unfolding placesIn
@@ -32,7 +33,8 @@ sighted-old (x ∷ xs) (y ∷ ys) (c ∷ cs) m p q h = go (samePlace (record { x
     Goal : Bool → Type 0
     Goal b =
         placesIn (x ∷ xs) (y ∷ ys) (set (c ∷ cs) (cond b 0 (suc k)) (suc (getD (c ∷ cs) (cond b 0 (suc k)) 0)))
-        ≡ cond b (record { at = record { x = x; y = y }; count = suc c } ∷ placesIn xs ys cs) (record { at = record { x = x; y = y }; count = c } ∷ sighted (placesIn xs ys cs) m)
+        ≡ cond b (record { at = record { x = x; y = y }; count = suc c } ∷ placesIn xs ys cs) (record { at = record { x = x; y = y }; count = c }
+        ∷ sighted (placesIn xs ys cs) m)
 
     go : (b : Bool) → cond b 0 (suc k) < suc (length xs) → (k < length xs → placesIn xs ys (set cs k (suc (getD cs k 0))) ≡ sighted (placesIn xs ys cs) m) → Goal b
     go true l ih = refl
@@ -56,8 +58,10 @@ sighted-new (x ∷ xs) (y ∷ ys) (c ∷ cs) m p q h = go (samePlace (record { x
     head : Place
     head = record { at = record { x = x; y = y }; count = c }
 
-    go : (b : Bool) → suc (length xs) ≤ cond b 0 (suc k) → (length xs ≤ k → placesIn (xs ++ (m .x ∷ [])) (ys ++ (m .y ∷ [])) (cs ++ (1 ∷ [])) ≡ sighted (placesIn xs ys cs) m)
-        → _≡_ {A = List Place} (head ∷ placesIn (xs ++ (m .x ∷ [])) (ys ++ (m .y ∷ [])) (cs ++ (1 ∷ []))) (cond b (record { at = record { x = x; y = y }; count = suc c } ∷ placesIn xs ys cs) (head ∷ sighted (placesIn xs ys cs) m))
+    go : (b : Bool) → suc (length xs) ≤ cond b 0 (suc k)
+        → (length xs ≤ k → placesIn (xs ++ (m .x ∷ [])) (ys ++ (m .y ∷ [])) (cs ++ (1 ∷ [])) ≡ sighted (placesIn xs ys cs) m)
+        → _≡_ {A = List Place} (head ∷ placesIn (xs ++ (m .x ∷ [])) (ys ++ (m .y ∷ [])) (cs ++ (1 ∷ [])))
+        (cond b (record { at = record { x = x; y = y }; count = suc c } ∷ placesIn xs ys cs) (head ∷ sighted (placesIn xs ys cs) m))
     go true l ih = absurd (omega arith)
     go false l ih = ap {B = List Place} (λ r. head ∷ r) (ih (omega arith))
 
@@ -104,7 +108,8 @@ unfolding sighted stayCount
 counted-one [] m = refl
 counted-one (p ∷ ps) m = go (samePlace (p .at) m) (counted-one ps m)
   where
-    go : (b : Bool) → stayCount (sighted ps m) ≡ suc (stayCount ps) → stayCount (cond b (record { at = p .at; count = suc (p .count) } ∷ ps) (p ∷ sighted ps m)) ≡ suc (p .count + stayCount ps)
+    go : (b : Bool) → stayCount (sighted ps m) ≡ suc (stayCount ps)
+        → stayCount (cond b (record { at = p .at; count = suc (p .count) } ∷ ps) (p ∷ sighted ps m)) ≡ suc (p .count + stayCount ps)
     go true e = let r : suc (p .count) + stayCount ps ≡ suc (p .count + stayCount ps) = omega arith in r
     go false e = let r : p .count + stayCount (sighted ps m) ≡ suc (p .count + stayCount ps) = omega arith in r
 

@@ -1,4 +1,4 @@
--- Every place is the place of a median that was sighted. Assumes nothing.
+-- Every place is the place of a median that was sighted.
 use mathlib.Core.Path.{_≡_, refl, ap, _∙_}
 use mathlib.Core.Logic.{_⊎_, inl, inr}
 use mathlib.Core.Bool.{Bool, true, false, cond}
@@ -10,7 +10,7 @@ use lib.ListN.{length}
 use Rattle.distance.specs.declared.Point.{Point}
 use Rattle.neighbors.specs.Places.{Place, samePlace, placeOf, sighted, sightedAll, places}
 use Rattle.neighbors.proofs.SameBits.{same-self}
-use Rattle.neighbors.proofs.Found.{Among, among-left, among-right}
+use Rattle.lists.proofs.Items.{Among, among-left, among-right}
 
 -- A median that has a place keeps its number.
 kept-number : (ps : List Place) (q m : Point) → placeOf ps m < length ps → placeOf (sighted ps q) m ≡ placeOf ps m
@@ -18,7 +18,8 @@ unfolding sighted placeOf
 kept-number [] q m h = absurd (omega arith)
 kept-number (p ∷ ps) q m h = go (samePlace (p .at) q) (samePlace (p .at) m) refl (kept-number ps q m) h
   where
-    go : (b c : Bool) → samePlace (p .at) m ≡ c → (placeOf ps m < length ps → placeOf (sighted ps q) m ≡ placeOf ps m) → cond c 0 (suc (placeOf ps m)) < suc (length ps)
+    go : (b c : Bool) → samePlace (p .at) m ≡ c → (placeOf ps m < length ps → placeOf (sighted ps q) m ≡ placeOf ps m)
+        → cond c 0 (suc (placeOf ps m)) < suc (length ps)
         → placeOf (cond b (record { at = p .at; count = suc (p .count) } ∷ ps) (p ∷ sighted ps q)) m ≡ cond c 0 (suc (placeOf ps m))
     go true c e ih k = rw e
     go false true e ih k = rw e

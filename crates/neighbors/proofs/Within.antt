@@ -7,7 +7,8 @@ use borrow.Author.Tests.{lt-leb, le-leb}
 use lib.ListN.{length, length-map}
 use lib.Ieee.{Float}
 use Rattle.distance.specs.declared.Point.{Point}
-use Rattle.neighbors.specs.Places.{Place, sighted, sightedAll, sightedWithin, places, placesWithin, placesIn, placeXs, placeYs, placeCounts}
+use Rattle.neighbors.specs.Places.{Place, sighted, sightedAll, places, placesIn, placeXs, placeYs}
+use Rattle.neighbors.specs.StepsPlaces.{sightedWithin, placesWithin, placeCounts}
 use Rattle.neighbors.proofs.Sighted.{longer-all}
 
 -- ---- the cap

@@ -6,7 +6,8 @@ use mathlib.Core.List.{List}
 use lib.ListN.{length}
 use lib.Ieee.{Float}
 use Rattle.neighbors.specs.Places.{Place}
-use Rattle.neighbors.specs.Links.{Metric, link}
+use Rattle.distance.specs.Distance.{Metric}
+use Rattle.neighbors.specs.Links.{link}
 
 -- A list of places from i to k, each linked to the next; one place alone is a chain from itself to itself.
 pub data Chain (dist : Metric) (r2 : Float) (ps : List Place) : ℕ → ℕ → Type 0 where

@@ -7,11 +7,8 @@ use lib.ListN.{length}
 use lib.Ieee.{Float, le}
 use Rattle.lists.specs.Lists.{upto, anyOf, select}
 use Rattle.float.specs.Binary64.{whole64, zero64}
-use Rattle.distance.specs.declared.Point.{Point}
+use Rattle.distance.specs.Distance.{Metric}
 use Rattle.neighbors.specs.Places.{Place, placeAt}
-
-abbrev pub Metric : Type 0
-Metric = Point → Point → Float
 
 -- The distance of two places, lower number first.
 unfoldable pub apart : Metric → List Place → ℕ → ℕ → Float
@@ -24,10 +21,6 @@ link dist r2 ps i j = not (eqb i j) && le (apart dist ps i j) r2
 -- The weight of a link is the larger count; 0 for no link.
 unfoldable pub weight : Metric → Float → List Place → ℕ → ℕ → Float
 weight dist r2 ps i j = cond (link dist r2 ps i j) (whole64 (max (placeAt ps i .count) (placeAt ps j .count))) zero64
-
--- The same as a whole number.
-unfoldable pub wholeWeight : Metric → Float → List Place → ℕ → ℕ → ℕ
-wholeWeight dist r2 ps i j = cond (link dist r2 ps i j) (max (placeAt ps i .count) (placeAt ps j .count)) 0
 
 -- Whether a place has a link; one without is a single.
 unfoldable pub linked : Metric → Float → List Place → ℕ → Bool

@@ -1,16 +1,13 @@
 -- Distinct medians (docs/RULES.md, "Distinct medians"). Definitions only.
 use mathlib.Core.Path.{_≡_}
 use mathlib.Core.Logic.{_≢_}
-use Prim.Native.Nat.{ℕ, suc, _+_, _<_}
+use Prim.Native.Nat.{ℕ, suc, _<_}
 use mathlib.Core.Bool.{Bool, false, _&&_, cond}
 use mathlib.Core.List.{List, [], _∷_, map}
-use lib.Dec.{leb}
-use lib.ListN.{length, getD, take}
+use lib.ListN.{length, getD}
 use lib.Ieee.{Float}
 use Rattle.float.specs.Binary64.{zero64, sameBits}
 use Rattle.distance.specs.declared.Point.{Point}
-use Rattle.neighbors.specs.declared.places.PlaceCount.{PlaceCount}
-use Rattle.neighbors.specs.declared.places.PlaceCount.the-variants.{Places, TooMany}
 
 -- Two medians are one place if both bit patterns agree, so 0.0 and -0.0 differ.
 unfoldable pub samePlace : Point → Point → Bool
@@ -26,6 +23,7 @@ unfoldable pub sighted : List Place → Point → List Place
 sighted [] m = record { at = m; count = 1 } ∷ []
 sighted (p ∷ ps) m = let r = p ∷ sighted ps m in cond (samePlace (p .at) m) (record { at = p .at; count = suc (p .count) } ∷ ps) r
 
+-- The places after more medians, in order.
 unfoldable pub sightedAll : List Place → List Point → List Place
 sightedAll ps [] = ps
 sightedAll ps (m ∷ ms) = sightedAll (sighted ps m) ms
@@ -34,20 +32,12 @@ sightedAll ps (m ∷ ms) = sightedAll (sighted ps m) ms
 unfoldable pub places : List Point → List Place
 places ms = sightedAll [] ms
 
--- The places after the medians ms too, up to the first that would make them more than the cap.
-unfoldable pub sightedWithin : ℕ → List Place → List Point → List Place
-sightedWithin cap ps [] = ps
-sightedWithin cap ps (m ∷ ms) = let r = sightedWithin cap (sighted ps m) ms in cond (leb (length (sighted ps m)) cap) r ps
-
--- The places of medians in order, up to the first that would be a place more than the cap.
-unfoldable pub placesWithin : ℕ → List Point → List Place
-placesWithin cap ms = sightedWithin cap [] ms
-
 -- The number of the place of m; how many places there are where m has none.
 unfoldable pub placeOf : List Place → Point → ℕ
 placeOf [] m = 0
 placeOf (p ∷ ps) m = let r = suc (placeOf ps m) in cond (samePlace (p .at) m) 0 r
 
+-- Stands for a place where there is none.
 abbrev pub noPlace : Place
 noPlace = record { at = record { x = zero64; y = zero64 }; count = 0 }
 
@@ -59,18 +49,7 @@ placeAt ps i = getD ps i noPlace
 abbrev pub AllDiffer : List Point → Type 0
 AllDiffer ps = (i j : ℕ) → i < length ps → j < length ps → i ≢ j → samePlace (getD ps i (noPlace .at)) (getD ps j (noPlace .at)) ≡ false
 
--- All stays of all places.
-unfoldable pub stayCount : List Place → ℕ
-stayCount [] = 0
-stayCount (p ∷ ps) = p .count + stayCount ps
-
 -- ---- what slices hold
-
--- The points of two slices of coordinates.
-unfoldable pub points : List Float → List Float → List Point
-points [] ys = []
-points (x ∷ xs) [] = []
-points (x ∷ xs) (y ∷ ys) = record { x = x; y = y } ∷ points xs ys
 
 -- The places of slices of coordinates and counts.
 unfoldable pub placesIn : List Float → List Float → List ℕ → List Place
@@ -86,15 +65,3 @@ placeXs ps = map (λ (p : Place). p .at .x) ps
 -- The y of each place.
 unfoldable pub placeYs : List Place → List Float
 placeYs ps = map (λ (p : Place). p .at .y) ps
-
--- The count of each place.
-unfoldable pub placeCounts : List Place → List ℕ
-placeCounts ps = map (λ (p : Place). p .count) ps
-
--- The n places at the front of longer slices.
-abbrev pub front : List Float → List Float → List ℕ → ℕ → List Place
-front xs ys cs n = placesIn (take n xs) (take n ys) (take n cs)
-
--- How many places there are, or more than the caller's cap (the rules' 19).
-unfoldable pub distinctWithin : ℕ → List Place → PlaceCount
-distinctWithin cap ps = cond (leb (length ps) cap) (Places (length ps)) TooMany

@@ -1,47 +1,13 @@
 -- Tables of numbers in one list, row after row. Definitions only.
-use mathlib.Core.Path.{_≡_}
-use Prim.Native.Nat.{ℕ, _+_, _*_, _<_, _≤_}
-use mathlib.Core.Bool.{Bool}
+use Prim.Native.Nat.{ℕ}
 use mathlib.Core.List.{List, [], _∷_, _++_, map}
-use lib.ListN.{length, getD}
-use lib.Ieee.{Float, nan, lt}
-use Rattle.lists.specs.Lists.{upto, anyOf, select}
-use Rattle.float.specs.Binary64.{zero64}
-
--- The first k cells of a table of n columns are those of f.
-unfoldable pub Tabled : (ℕ → ℕ → Float) → ℕ → List Float → ℕ → Type 0
-Tabled f n t k = (a b : ℕ) → a < n → b < n → a * n + b < k → getD t (a * n + b) nan ≡ f a b
-
--- Whether row i of a table of n columns has a weight above 0.
-unfoldable pub hasWeight : ℕ → List Float → ℕ → Bool
-hasWeight n t i = anyOf (λ j. lt zero64 (getD t (i * n + j) nan)) (upto n)
-
--- The rows of n that have one.
-unfoldable pub rowsWithWeight : ℕ → List Float → List ℕ
-rowsWithWeight n t = select (hasWeight n t) (upto n)
+use lib.Ieee.{Float}
 
 -- The cells of f at rows and columns ns, row after row.
 unfoldable pub rowsOf : (ℕ → ℕ → Float) → List ℕ → List ℕ → List Float
 rowsOf f ns [] = []
 rowsOf f ns (i ∷ is) = map (f i) ns ++ rowsOf f ns is
 
+-- The table of f at the rows and columns ns.
 unfoldable pub tableOf : (ℕ → ℕ → Float) → List ℕ → List Float
 tableOf f ns = rowsOf f ns ns
-
--- The slices of a table of the weights of all pairs of at most 512 places.
-pub record Square (xs ys : List Float) (cs : List ℕ) (t : List Float) : Type 0 where
-  pub ordinates : length ys ≡ length xs
-  pub counts : length cs ≡ length xs
-  pub cells : length t ≡ length xs * length xs
-  pub few : length xs ≤ 512
-
--- Row numbers below n, each at least its own place in the list, as in a list that rises.
-pub record Rising (n : ℕ) (ns : List ℕ) : Type 0 where
-  pub few : length ns ≤ n
-  pub above : (u : ℕ) → u < length ns → u ≤ getD ns u 0
-  pub below : (u : ℕ) → u < length ns → getD ns u 0 < n
-
--- A table t of n columns becomes a table s of the rows and columns ns: the first k cells of s are theirs, and the others are t's.
-pub record Compacted (n : ℕ) (ns : List ℕ) (t s : List Float) (k : ℕ) : Type 0 where
-  pub moved : Tabled (λ u v. getD t (getD ns u 0 * n + getD ns v 0) nan) (length ns) s k
-  pub rest : (i : ℕ) → k ≤ i → getD s i nan ≡ getD t i nan

@@ -3,16 +3,8 @@ ghost use mathlib.Core.Path.{_≡_};
 ghost use Prim.Native.Nat.{_+_, _*_, _<_, _≤_};
 ghost use mathlib.Core.Bool.{cond};
 ghost use lib.ListN.{length, set};
-ghost use mathlib.Core.List.{List};
-ghost use lib.Ieee.{Float};
 ghost use Rattle.lists.specs.Lists.{overlay};
-ghost use Rattle.neighbors.specs.Tables.{hasWeight, rowsWithWeight, Rising, Compacted};
-
-fn wide(x: u32) -> usize
-    ensures { λ r. ⌜ r ≡ x ⌝ }
-{
-    x as usize
-}
+ghost use Rattle.neighbors.specs.StepsTables.{hasWeight, rowsWithWeight, RowNumbers, Compacted, RowMoved};
 
 // Whether row i of a table of n columns has a weight above 0.
 fn has_weight(table: &[f64], n: usize, i: usize) -> bool
@@ -58,14 +50,14 @@ pub fn find_nodes(table: &[f64], n: usize, nodes: &mut [u32]) -> usize
 
 // Moves row u of the nodes' cells to the front.
 fn compact_row(table: &mut [f64], n: usize, nodes: &[u32], u: usize)
-    requires { ⌜ (n ≤ 512) × (n * n ≤ length (now table)) × (u < length (now nodes)) × (Rising n (now nodes)) ⌝ }
-    ensures { λ _. ⌜ ((t : List Float) → Compacted n (now (nodes .entry)) t (now (table .entry)) (u * length (now (nodes .entry))) → Compacted n (now (nodes .entry)) t (now (table .exit)) ((u + 1) * length (now (nodes .entry)))) ⌝ }
+    requires { ⌜ (n ≤ 512) × (n * n ≤ length (now table)) × (u < length (now nodes)) × (RowNumbers n (now nodes)) ⌝ }
+    ensures { λ _. ⌜ RowMoved n (now (nodes .entry)) u (now (table .entry)) (now (table .exit)) ⌝ }
 {
     let k = nodes.len();
-    let i = wide(nodes[u]);
+    let i = lists::wide(nodes[u]);
     let mut v = 0;
     while v < k {
-        let j = wide(nodes[v]);
+        let j = lists::wide(nodes[v]);
         table[u * k + v] = table[i * n + j];
         v += 1;
     }
@@ -73,7 +65,7 @@ fn compact_row(table: &mut [f64], n: usize, nodes: &[u32], u: usize)
 
 // Makes the table of n columns one of the nodes' rows and columns, at its front.
 pub fn compact(table: &mut [f64], n: usize, nodes: &[u32])
-    requires { ⌜ (n ≤ 512) × (n * n ≤ length (now table)) × (Rising n (now nodes)) ⌝ }
+    requires { ⌜ (n ≤ 512) × (n * n ≤ length (now table)) × (RowNumbers n (now nodes)) ⌝ }
     ensures { λ _. ⌜ Compacted n (now (nodes .entry)) (now (table .entry)) (now (table .exit)) (length (now (nodes .entry)) * length (now (nodes .entry))) ⌝ }
 {
     let mut u = 0;

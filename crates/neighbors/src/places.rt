@@ -1,10 +1,9 @@
 // Distinct medians: one place if both bit patterns agree, numbered by first sight.
 ghost use mathlib.Core.Path.{_≡_};
-ghost use Prim.Native.Nat.{ℕ, _+_, _<_, _≤_};
-ghost use mathlib.Core.List.{List, [], _∷_};
+ghost use Prim.Native.Nat.{_≤_};
 ghost use lib.ListN.{length};
-ghost use Rattle.lists.specs.Lists.{overlay};
-ghost use Rattle.neighbors.specs.Places.{samePlace, placeOf, sighted, sightedWithin, places, placesWithin, stayCount, points, placesIn, placeXs, placeYs, placeCounts, front, distinctWithin};
+ghost use Rattle.neighbors.specs.Places.{samePlace};
+ghost use Rattle.neighbors.specs.StepsPlaces.{PlaceFound, PlacesInFront, OneMoreLaid, DistinctLaid};
 ghost use Rattle.float.specs.Binary64.{sameBits};
 use distance::Point;
 
@@ -40,7 +39,7 @@ pub fn same_place(a: Point, b: Point) -> bool
 // The number of the place of m, or of places where it has none.
 pub fn place_of(xs: &[f64], ys: &[f64], m: Point) -> usize
     requires { ⌜ length (now ys) ≡ length (now xs) ⌝ }
-    ensures { λ r. ⌜ ((cs : List ℕ) → length cs ≡ length (now (xs .entry)) → r ≡ placeOf (placesIn (now (xs .entry)) (now (ys .entry)) cs) m) ⌝ }
+    ensures { λ r. ⌜ PlaceFound (now (xs .entry)) (now (ys .entry)) m r ⌝ }
 {
     let mut i = 0;
     while i < xs.len() {
@@ -56,8 +55,8 @@ pub fn place_of(xs: &[f64], ys: &[f64], m: Point) -> usize
 // One more stay with the median m, where n places stand in front: how many there are then. Where that is one more than there is room for,
 // nothing is written.
 fn sight(xs: &mut [f64], ys: &mut [f64], counts: &mut [u32], n: usize, m: Point) -> usize
-    requires { ⌜ (length (now ys) ≡ length (now xs)) × (length (now counts) ≡ length (now xs)) × (n ≤ length (now xs)) × (stayCount (front (now xs) (now ys) (now counts) n) < 65536) ⌝ }
-    ensures { λ r. ⌜ (r ≡ length (sighted (front (now (xs .entry)) (now (ys .entry)) (now (counts .entry)) n) m)) × (now (xs .exit) ≡ overlay (placeXs (sightedWithin (length (now (xs .entry))) (front (now (xs .entry)) (now (ys .entry)) (now (counts .entry)) n) (m ∷ []))) (now (xs .entry))) × (now (ys .exit) ≡ overlay (placeYs (sightedWithin (length (now (xs .entry))) (front (now (xs .entry)) (now (ys .entry)) (now (counts .entry)) n) (m ∷ []))) (now (ys .entry))) × (now (counts .exit) ≡ overlay (placeCounts (sightedWithin (length (now (xs .entry))) (front (now (xs .entry)) (now (ys .entry)) (now (counts .entry)) n) (m ∷ []))) (now (counts .entry))) ⌝ }
+    requires { ⌜ PlacesInFront (now xs) (now ys) (now counts) n ⌝ }
+    ensures { λ r. ⌜ OneMoreLaid (now (xs .entry)) (now (ys .entry)) (now (counts .entry)) n m r (now (xs .exit)) (now (ys .exit)) (now (counts .exit)) ⌝ }
 {
     let i = place_of(&xs[0..n], &ys[0..n], m);
     if i < n {
@@ -83,7 +82,7 @@ pub fn distinct(
     counts: &mut [u32],
 ) -> PlaceCount
     requires { ⌜ (length (now my) ≡ length (now mx)) × (length (now mx) ≤ 65536) × (length (now ys) ≡ length (now xs)) × (length (now counts) ≡ length (now xs)) ⌝ }
-    ensures { λ r. ⌜ (r ≡ distinctWithin (length (now (xs .entry))) (places (points (now (mx .entry)) (now (my .entry))))) × (now (xs .exit) ≡ overlay (placeXs (placesWithin (length (now (xs .entry))) (points (now (mx .entry)) (now (my .entry))))) (now (xs .entry))) × (now (ys .exit) ≡ overlay (placeYs (placesWithin (length (now (xs .entry))) (points (now (mx .entry)) (now (my .entry))))) (now (ys .entry))) × (now (counts .exit) ≡ overlay (placeCounts (placesWithin (length (now (xs .entry))) (points (now (mx .entry)) (now (my .entry))))) (now (counts .entry))) ⌝ }
+    ensures { λ r. ⌜ DistinctLaid (now (mx .entry)) (now (my .entry)) (now (xs .entry)) (now (ys .entry)) (now (counts .entry)) r (now (xs .exit)) (now (ys .exit)) (now (counts .exit)) ⌝ }
 {
     let mut n = 0;
     let mut k = 0;

@@ -8,31 +8,22 @@ ghost use Rattle.float.specs.Binary64.{whole64, zero64};
 ghost use Rattle.distance.specs.Distance.{euclidean};
 ghost use Rattle.neighbors.specs.Places.{placesIn};
 ghost use Rattle.neighbors.specs.Links.{weight};
-ghost use Rattle.neighbors.specs.Tables.{Tabled, Square};
+ghost use Rattle.neighbors.specs.StepsTables.{Square, Weighted, RowsFilled};
 use distance::Point;
-
-fn larger(a: u32, b: u32) -> u32
-    ensures { λ r. ⌜ r ≡ max a b ⌝ }
-{
-    if a < b {
-        return b;
-    }
-    a
-}
 
 // The weight between two places, the one of lower number first.
 fn pair_weight(p: Point, q: Point, c: u32, d: u32, r2: f64) -> f64
     ensures { λ r. ⌜ r ≡ cond (le (euclidean p q) r2) (whole64 (max c d)) zero64 ⌝ }
 {
     if distance::distance(p, q) <= r2 {
-        return larger(c, d) as f64;
+        return lists::larger(c, d) as f64;
     }
     0.0
 }
 
 // Cell (i, j) of the table whose earlier rows are filled.
 fn cell(xs: &[f64], ys: &[f64], counts: &[u32], r2: f64, table: &[f64], i: usize, j: usize) -> f64
-    requires { ⌜ (Square (now xs) (now ys) (now counts) (now table)) × (i < length (now xs)) × (j < length (now xs)) × Tabled (weight euclidean r2 (placesIn (now xs) (now ys) (now counts))) (length (now xs)) (now table) (i * length (now xs)) ⌝ }
+    requires { ⌜ (j < length (now xs)) × RowsFilled euclidean r2 (now xs) (now ys) (now counts) (now table) i ⌝ }
     ensures { λ r. ⌜ r ≡ weight euclidean r2 (placesIn (now (xs .entry)) (now (ys .entry)) (now (counts .entry))) i j ⌝ }
 {
     if j < i {
@@ -48,8 +39,8 @@ fn cell(xs: &[f64], ys: &[f64], counts: &[u32], r2: f64, table: &[f64], i: usize
 
 // Fills row i.
 fn fill_row(xs: &[f64], ys: &[f64], counts: &[u32], r2: f64, table: &mut [f64], i: usize)
-    requires { ⌜ (Square (now xs) (now ys) (now counts) (now table)) × (i < length (now xs)) × Tabled (weight euclidean r2 (placesIn (now xs) (now ys) (now counts))) (length (now xs)) (now table) (i * length (now xs)) ⌝ }
-    ensures { λ _. ⌜ Tabled (weight euclidean r2 (placesIn (now (xs .entry)) (now (ys .entry)) (now (counts .entry)))) (length (now (xs .entry))) (now (table .exit)) ((i + 1) * length (now (xs .entry))) ⌝ }
+    requires { ⌜ RowsFilled euclidean r2 (now xs) (now ys) (now counts) (now table) i ⌝ }
+    ensures { λ _. ⌜ Weighted euclidean r2 (now (xs .entry)) (now (ys .entry)) (now (counts .entry)) (now (table .exit)) ((i + 1) * length (now (xs .entry))) ⌝ }
 {
     let n = xs.len();
     let mut j = 0;
@@ -63,7 +54,7 @@ fn fill_row(xs: &[f64], ys: &[f64], counts: &[u32], r2: f64, table: &mut [f64], 
 // Fills the table of weights of all pairs of places, with one distance for each pair.
 pub fn fill_table(xs: &[f64], ys: &[f64], counts: &[u32], r2: f64, table: &mut [f64])
     requires { ⌜ Square (now xs) (now ys) (now counts) (now table) ⌝ }
-    ensures { λ _. ⌜ Tabled (weight euclidean r2 (placesIn (now (xs .entry)) (now (ys .entry)) (now (counts .entry)))) (length (now (xs .entry))) (now (table .exit)) (length (now (xs .entry)) * length (now (xs .entry))) ⌝ }
+    ensures { λ _. ⌜ Weighted euclidean r2 (now (xs .entry)) (now (ys .entry)) (now (counts .entry)) (now (table .exit)) (length (now (xs .entry)) * length (now (xs .entry))) ⌝ }
 {
     let n = xs.len();
     let mut i = 0;

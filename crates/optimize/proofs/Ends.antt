@@ -1,17 +1,17 @@
--- What is known at the end of a trial: its rounds, and how high its internal numbers are. Assumes nothing.
+-- What is known at the end of a trial: its rounds, and how high its internal numbers are.
 use mathlib.Core.Path.{_≡_, refl, _∙_}
 use mathlib.Core.Bool.{Bool, true, false}
 use Prim.Native.Nat.{ℕ, zero, suc, _+_, _*_, _<_, _≤_}
 use native.Mathlib.Omega.{arith}
 use lib.ListN.{length}
-use Rattle.lists.specs.Lists.{upto}
 use Rattle.lists.proofs.Tests.{clash}
-use Rattle.lists.proofs.Upto.{length-upto, getD-upto}
 use Rattle.map_state.specs.Network.{Network}
 use Rattle.codelength.specs.Codelength.{fromPartition}
-use Rattle.optimize.specs.Rounds.{Run, round, runRounds, optimizePartition, AtMost}
+use Rattle.optimize.specs.Rounds.{Run, round, runRounds, started, optimizePartition}
+use Rattle.optimize.specs.Steps.{AtMost}
 use Rattle.optimize.proofs.Numbers.{at-most-more}
 use Rattle.optimize.proofs.Rounds.{round-counts, round-at-most}
+use Rattle.optimize.proofs.Start.{at-most-upto}
 
 module _ (net : Network) where
   rounds-if-moved : (k : ℕ) (b : Bool) (r : Run) → r .moved ≡ b → runRounds net k b r .moved ≡ true → runRounds net k b r .rounds ≡ r .rounds + k
@@ -23,7 +23,7 @@ module _ (net : Network) where
   -- A trial that still moved something in its last round has had 100 rounds.
   pub spent-after-100 : (x : ℕ) → optimizePartition net x .moved ≡ true → optimizePartition net x .rounds ≡ 100
   unfolding optimizePartition
-  spent-after-100 x h = rounds-if-moved 100 true (record { state = fromPartition net (upto (length (net .strength))); rng = x; rounds = 0; moved = true }) refl h
+  spent-after-100 x h = rounds-if-moved 100 true (started net x) refl h
 
   rounds-between : (k : ℕ) (b : Bool) (r : Run) → (r .rounds ≤ runRounds net k b r .rounds) × (runRounds net k b r .rounds ≤ r .rounds + k)
   unfolding runRounds
@@ -38,9 +38,9 @@ module _ (net : Network) where
   pub rounds-counted : (x : ℕ) → (0 < optimizePartition net x .rounds) × (optimizePartition net x .rounds ≤ 100)
   unfolding optimizePartition runRounds
   rounds-counted x =
-      let s = round net (record { state = fromPartition net (upto (length (net .strength))); rng = x; rounds = 0; moved = true }) in
+      let s = round net (started net x) in
       let i = rounds-between 99 (s .moved) s in
-      let c = round-counts net (record { state = fromPartition net (upto (length (net .strength))); rng = x; rounds = 0; moved = true }) in
+      let c = round-counts net (started net x) in
       (omega arith, omega arith)
 
   runs-at-most : (k b : ℕ) (m : Bool) (r : Run) → AtMost b (r .state .partition) → AtMost (b + k * length (net .strength)) (runRounds net k m r .state .partition)
@@ -51,16 +51,10 @@ module _ (net : Network) where
       at-most-more (b + length (net .strength) + k * length (net .strength)) (b + suc k * length (net .strength)) (runRounds net k (round net r .moved) (round net r) .state .partition) (omega arith)
       (runs-at-most k (b + length (net .strength)) (round net r .moved) (round net r) (round-at-most b net r f))
 
-  start-at-most : (n : ℕ) → AtMost n (upto n)
-  unfolding AtMost
-  start-at-most n v h =
-      let i : v < n = omega (arith, length-upto n) in
-      rw (getD-upto n v i) (omega arith)
-
   -- The internal numbers of a trial of n nodes go up to 101 n at most: 51,712 for 512 nodes.
   pub numbers-at-most : (x : ℕ) → AtMost (101 * length (net .strength)) (optimizePartition net x .state .partition)
   unfolding optimizePartition fromPartition
   numbers-at-most x =
       let n = length (net .strength) in
       at-most-more (n + 100 * n) (101 * n) (optimizePartition net x .state .partition) (omega arith)
-      (runs-at-most 100 n true (record { state = fromPartition net (upto n); rng = x; rounds = 0; moved = true }) (start-at-most n))
+      (runs-at-most 100 n true (started net x) (at-most-upto n))

@@ -1,4 +1,4 @@
--- The groups' numbers grow by at most one a node in an isolation pass, and not in a pass of moves. Assumes nothing.
+-- The groups' numbers grow by at most one a node in an isolation pass, and not in a pass of moves.
 use mathlib.Core.Path.{_≡_}
 use mathlib.Core.Bool.{Bool, true, false, cond}
 use mathlib.Core.List.{List, [], _∷_}
@@ -14,9 +14,10 @@ use Rattle.scan.specs.Scan.{margin, scan, scanFrom, consider, better, bestDelta
 use Rattle.float.specs.Binary64.{sub64}
 use Rattle.map_state.specs.Network.{Network, row}
 use Rattle.map_state.specs.MapState.{MapState, applyMove, deltaMove}
-use Rattle.optimize.specs.Rounds.{Pass, act, pass, AtMost}
-use Rattle.rng.proofs.Items.{All}
-use Rattle.scan.proofs.Rising.{each}
+use Rattle.optimize.specs.Rounds.{Pass, act, pass}
+use Rattle.optimize.specs.Steps.{asked, AtMost}
+use Rattle.lists.proofs.Items.{All}
+use Rattle.scan.proofs.Candidates.{each}
 
 pub at-most-at : (b : ℕ) (part : List ℕ) → AtMost b part → (v : ℕ) → v < length part → getD part v 0 ≤ b
 unfolding AtMost
@@ -88,8 +89,14 @@ isolation-pass-at-most b n w (u ∷ us) f =
     at-most-more (b + 1 + length us) (b + suc (length us)) _ (omega arith)
     (isolation-pass-at-most (b + 1) n (act n w u (isolate n (w .state) u)) us (act-at-most (b + 1) n w u (isolate n (w .state) u) (at-most-more b (b + 1) (w .state .partition) (omega arith) f) (isolate-to b n (w .state) u f)))
 
--- one node of an isolation pass, as the code's loop counts
-pub act-isolate-at-most : (i : ℕ) (n : Network) (w : Pass) (u : ℕ) {a : Answer} {w' : Pass} → AtMost (900000 + i) (w .state .partition) → a ≡ isolate n (w .state) u → w' ≡ act n w u a → AtMost (900000 + (i + 1)) (w' .state .partition)
-act-isolate-at-most i n w u f p q =
-    rw (q, p) (at-most-more (900000 + i + 1) (900000 + (i + 1)) _ (omega arith)
-    (act-at-most (900000 + i + 1) n w u (isolate n (w .state) u) (at-most-more (900000 + i) (900000 + i + 1) (w .state .partition) (omega arith) f) (isolate-to (900000 + i) n (w .state) u f)))
+-- one node of a pass, as the code's loop counts
+asked-to : (b : ℕ) (alone : Bool) (n : Network) (s : MapState) (u : ℕ) → AtMost b (s .partition) → To (λ h. h ≤ b + 1) (asked alone n s u)
+asked-to b true n s u f = isolate-to b n s u f
+asked-to b false n s u f = scan-to (b + 1) n s u (at-most-more b (b + 1) (s .partition) (omega arith) f)
+
+pub act-asked-at-most : (i : ℕ) (alone : Bool) (n : Network) (w : Pass) (u : ℕ) {a : Answer} {w' : Pass} → AtMost (900000 + i) (w .state .partition)
+    → a ≡ asked alone n (w .state) u → w' ≡ act n w u a → AtMost (900000 + (i + 1)) (w' .state .partition)
+act-asked-at-most i alone n w u f p q =
+    let b = 900000 + i in
+    rw (q, p) (at-most-more (b + 1) (900000 + (i + 1)) _ (omega arith)
+    (act-at-most (b + 1) n w u (asked alone n (w .state) u) (at-most-more b (b + 1) (w .state .partition) (omega arith) f) (asked-to b alone n (w .state) u f)))

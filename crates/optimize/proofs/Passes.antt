@@ -1,17 +1,20 @@
--- How a pass goes on, node by node. Assumes nothing.
-use mathlib.Core.Path.{_≡_, sym, _∙_}
+-- How a pass goes on, node by node.
+use mathlib.Core.Path.{_≡_}
 use mathlib.Core.Bool.{true}
 use mathlib.Core.List.{List}
 use Prim.Native.Nat.{ℕ, _+_, _<_, _≤_}
 use native.Mathlib.Numerals.{add-one}
+use native.Mathlib.Omega.{arith}
 use lib.ListN.{length, getD, drop, drop-of-length-le}
 use lib.Seq.{drop-cons}
 use lib.Ieee.{Float}
+use Rattle.rng.specs.Steps.{Below}
+use Rattle.rng.proofs.Visits.{below-at}
 use Rattle.map_state.specs.Network.{Network}
 use Rattle.map_state.specs.MapState.{MapState, applyMove}
-use Rattle.map_state.specs.Arrays.{Sized}
 use Rattle.optimize.specs.Rounds.{Pass, act, pass}
-use Rattle.scan.specs.Scan.{Answer, answerOf}
+use Rattle.scan.specs.Scan.{Answer}
+use Rattle.scan.specs.Steps.{answerOf}
 use Rattle.scan.specs.declared.Scan.{Scan}
 use Rattle.scan.specs.declared.Scan.the-variants.{Stay, Move}
 
@@ -32,15 +35,6 @@ pub pass-end : (f : Network → MapState → ℕ → Answer) (n : Network) (w : 
 unfolding pass
 pass-end f n w order i h = rw (drop-of-length-le order {i = i} h)
 
--- slices that keep their lengths stay fit
-pub sized-kept : (t : List Float) (m : ℕ) (s : List Float) (part first : List ℕ) (exit str : List Float) (part' first' : List ℕ) (exit' str' : List Float) → Sized t m s part first exit str
-    → length part' ≡ length part → length first' ≡ length first → length exit' ≡ length exit → length str' ≡ length str → Sized t m s part' first' exit' str'
-sized-kept t m s part first exit str part' first' exit' str' z a b c d = record {
-  few = rw a (z .few);
-  wide = z .wide;
-  nodes = z .nodes ∙ sym a;
-  firsts = b ∙ z .firsts ∙ sym a;
-  exit = c ∙ z .exit ∙ sym a;
-  sums = d ∙ z .sums ∙ sym a;
-  rows = λ u h. rw a (z .rows u (rw a at h));
-}
+-- an item of an order is a node
+pub node-in : (n : ℕ) (part order : List ℕ) (i : ℕ) {u : ℕ} → u ≡ getD order i 0 → Below n order → i < length order → length part ≡ n → u < length part
+node-in n part order i e b h l = omega (arith, e, below-at n order b i h, l)

@@ -1,4 +1,4 @@
--- A round from its parts, and the rounds one after the other. Assumes nothing.
+-- A round from its parts, and the rounds one after the other.
 use mathlib.Core.Path.{_≡_, refl, sym, ap, _∙_}
 use mathlib.Core.Bool.{Bool, true, false}
 use mathlib.Core.List.{List}
@@ -11,7 +11,8 @@ use Rattle.rng.specs.Rng.{Shuffled, shuffle, order}
 use Rattle.lists.specs.Lists.{upto}
 -- Named so that the examples are checked before these lemmas.
 use Rattle.optimize.specs.Examples
-use Rattle.optimize.specs.Rounds.{Pass, Run, pass, round, runRounds, visits, lastVisitsFrom, AtMost}
+use Rattle.optimize.specs.Rounds.{Pass, Run, pass, round, runRounds, visits}
+use Rattle.optimize.specs.Steps.{lastVisitsFrom, AtMost}
 use Rattle.rng.proofs.Visits.{order-length}
 use Rattle.optimize.proofs.Numbers.{move-pass-at-most, isolation-pass-at-most}
 

@@ -1,4 +1,4 @@
--- The start of a trial, each node in a group of its own, and the trial from its parts. Assumes nothing.
+-- The start of a trial, each node in a group of its own, and the trial from its parts.
 use mathlib.Core.Path.{_≡_, sym, ap, _∙_}
 use mathlib.Core.Bool.{true}
 use mathlib.Core.List.{List}
@@ -11,9 +11,11 @@ use Rattle.lists.specs.Lists.{from, upto}
 use Rattle.lists.proofs.Upto.{length-upto, getD-upto}
 use Rattle.map_state.specs.Network.{Network}
 use Rattle.map_state.specs.MapState.{MapState, lowest}
-use Rattle.map_state.specs.Arrays.{Firsts}
+use Rattle.map_state.specs.Steps.{Firsts}
 use Rattle.codelength.specs.Codelength.{fromPartition}
-use Rattle.optimize.specs.Rounds.{Run, runRounds, optimizePartition, lastVisitsFrom, lastVisits, AtMost}
+use Rattle.optimize.specs.Rounds.{Run, runRounds, optimizePartition}
+use Rattle.optimize.proofs.Numbers.{at-most-more}
+use Rattle.optimize.specs.Steps.{lastVisitsFrom, lastVisits, AtMost}
 
 lowest-from : (i n v : ℕ) → v < n → lowest (i + v) (from i n) ≡ v
 unfolding from lowest
@@ -38,14 +40,14 @@ firsts-upto n v h =
 pub firsts-filled : (n : ℕ) {part first : List ℕ} → part ≡ upto n → first ≡ upto n → Firsts part first
 firsts-filled n p q = rw (p, q) (firsts-upto n)
 
-at-most-upto : (n : ℕ) → n ≤ 512 → AtMost 512 (upto n)
+pub at-most-upto : (n : ℕ) → AtMost n (upto n)
 unfolding AtMost
-at-most-upto n k v h =
+at-most-upto n v h =
     let i : v < n = omega (arith, length-upto n) in
     rw (getD-upto n v i) (omega arith)
 
 pub at-most-filled : (n : ℕ) {part : List ℕ} → n ≤ 512 → part ≡ upto n → AtMost 512 part
-at-most-filled n h p = rw p (at-most-upto n h)
+at-most-filled n h p = rw p (at-most-more n 512 (upto n) h (at-most-upto n))
 
 pub optimize-partition-is : (n : Network) (x k : ℕ) {part : List ℕ} {s : MapState} {r : Run} → k ≡ length (n .strength) → part ≡ upto k → s ≡ fromPartition n part → r ≡ runRounds n 100 true (record { state = s; rng = x; rounds = 0; moved = true }) → r ≡ optimizePartition n x
 unfolding optimizePartition

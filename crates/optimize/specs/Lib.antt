@@ -1,2 +1,3 @@
 pub mod Rounds
+pub mod Steps
 pub mod Examples

@@ -1,19 +1,14 @@
 -- Passes over an order of visiting, rounds, and a trial (`optimize_partition`). Definitions only.
-use mathlib.Core.Path.{_≡_}
-use Prim.Native.Nat.{ℕ, zero, suc, _+_, _<_, _≤_}
+use Prim.Native.Nat.{ℕ, zero, suc, _+_}
 use mathlib.Core.Bool.{Bool, true, false}
 use mathlib.Core.List.{List, [], _∷_}
-use lib.ListN.{length, getD}
-use lib.Ieee.{Float}
+use lib.ListN.{length}
 use Rattle.rng.specs.Rng.{order}
 use Rattle.lists.specs.Lists.{upto}
 use Rattle.map_state.specs.Network.{Network}
 use Rattle.map_state.specs.MapState.{MapState, applyMove}
-use Rattle.map_state.specs.Arrays.{stateOf, firstsOf}
 use Rattle.codelength.specs.Codelength.{fromPartition}
 use Rattle.scan.specs.Scan.{Answer, noMove, move, scan, isolate}
-use Rattle.optimize.specs.declared.PassState.{PassState}
-use Rattle.optimize.specs.declared.RunState.{RunState}
 
 -- A state, and whether a node has changed its group.
 pub record Pass : Type 0 where
@@ -43,6 +38,10 @@ pub record Run : Type 0 where
   pub rounds : ℕ
   pub moved : Bool
 
+-- The order in which a round visits the nodes.
+abbrev pub visits : Network → Run → List ℕ
+visits net r = order (r .rng) (length (net .strength)) .list
+
 -- A round: the nodes in an order of visiting are scanned, then the isolation pass visits them in the same order.
 -- It moved something if a node changed its group in either.
 unfoldable pub round : Network → Run → Run
@@ -64,38 +63,3 @@ started net x = record { state = fromPartition net (upto (length (net .strength)
 -- `optimize_partition`: a trial from the generator's state x; at most 100 rounds.
 unfoldable pub optimizePartition : Network → ℕ → Run
 optimizePartition net x = runRounds net 100 true (started net x)
-
--- ---- the order of visiting
-
--- The order in which a round visits the nodes.
-abbrev pub visits : Network → Run → List ℕ
-visits net r = order (r .rng) (length (net .strength)) .list
-
--- That of the last of so many rounds; o where there is none.
-unfoldable pub lastVisitsFrom : Network → ℕ → Bool → Run → List ℕ → List ℕ
-lastVisitsFrom net zero b r o = o
-lastVisitsFrom net (suc k) false r o = o
-lastVisitsFrom net (suc k) true r o = let s = round net r in lastVisitsFrom net k (s .moved) s (visits net r)
-
--- That of a trial's last round.
-unfoldable pub lastVisits : Network → ℕ → List ℕ
-lastVisits net x = lastVisitsFrom net 100 true (started net x) []
-
--- ---- what the code's slices and structs stand for
-
-abbrev pub passOf : List ℕ → List Float → List Float → PassState → Pass
-passOf part exits strengths w = record { state = stateOf part exits strengths (w .q); moved = w .moved }
-
-abbrev pub runOf : List ℕ → List Float → List Float → RunState → Run
-runOf part exits strengths t = record { state = stateOf part exits strengths (t .q); rng = t .rng; rounds = t .rounds; moved = t .moved }
-
--- How the slices of a trial from the generator's state x end, with its answer t: the partition and the sums are those of the run, `first`
--- is of each node the lowest member of its group, and `order` is the last round's.
-pub record TrialEnds (net : Network) (x : ℕ) (part first : List ℕ) (exits strengths : List Float) (order : List ℕ) (t : RunState) : Type 0 where
-  pub run : runOf part exits strengths t ≡ optimizePartition net x
-  pub firsts : first ≡ firstsOf part
-  pub visited : order ≡ lastVisits net x
-
--- No group's internal number is above b.
-unfoldable pub AtMost : ℕ → List ℕ → Type 0
-AtMost b part = (v : ℕ) → v < length part → getD part v 0 ≤ b

@@ -4,12 +4,12 @@
 use scan::Scan;
 ghost use mathlib.Core.Path.{_≡_};
 ghost use mathlib.Core.Bool.{true, false};
-ghost use Prim.Native.Nat.{ℕ, _+_, _-_, _*_, _<_, _≤_};
-ghost use lib.ListN.{length, getD};
-ghost use Rattle.rng.specs.Rng.{Below};
-ghost use Rattle.map_state.specs.Arrays.{netOf, stateOf, Firsts, Sized};
-ghost use Rattle.scan.specs.Scan.{answerOf};
-ghost use Rattle.optimize.specs.Rounds.{act, movePass, isolationPass, round, runRounds, passOf, runOf, AtMost, visits, lastVisitsFrom, TrialEnds};
+ghost use Prim.Native.Nat.{_+_, _-_, _<_};
+ghost use lib.ListN.{length};
+ghost use Rattle.map_state.specs.Steps.{netOf, stateOf, Sized, AtNode};
+ghost use Rattle.scan.specs.Steps.{answerOf, Testable};
+ghost use Rattle.optimize.specs.Rounds.{act, pass, visits, round, runRounds};
+ghost use Rattle.optimize.specs.Steps.{asked, passOf, runOf, lastVisitsFrom, PassFrom, PassEnds, RoundFrom, RoundEnds, TrialEnds};
 
 // Q, and whether a node has changed its group.
 pub struct PassState {
@@ -39,9 +39,10 @@ fn act(
     u: usize,
     a: Scan,
 ) -> PassState
-    requires { ⌜ (Sized (now table) stride (now strength) (now partition) (now first) (now exits) (now strengths)) × (u < length (now partition)) × (Firsts (now partition) (now first)) ⌝ }
-    ensures { λ r. ⌜ (passOf (now (partition .exit)) (now (exits .exit)) (now (strengths .exit)) r ≡ act (netOf (now (table .entry)) stride (now (strength .entry)) d) (passOf (now (partition .entry)) (now (exits .entry)) (now (strengths .entry)) w) u (answerOf a))
-        × Firsts (now (partition .exit)) (now (first .exit)) ⌝ }
+    requires { ⌜ AtNode (now table) stride (now strength) (now partition) (now first) (now exits) (now strengths) u ⌝ }
+    ensures { λ r. ⌜ PassEnds
+        (act (netOf (now (table .entry)) stride (now (strength .entry)) d) (passOf (now (partition .entry)) (now (exits .entry)) (now (strengths .entry)) w) u (answerOf a))
+        (now (partition .exit)) (now (first .exit)) (now (exits .exit)) (now (strengths .exit)) r ⌝ }
 {
     match a {
         Scan::Stay => w,
@@ -67,29 +68,26 @@ fn act(
     }
 }
 
-// Scans the nodes in their order, and moves each as its scan answers.
-fn move_pass(
+// What node u is answered: by its isolation test if `alone`, else by its scan.
+fn ask(
     table: &[f64],
     stride: usize,
     strength: &[f64],
     d: f64,
-    partition: &mut [u32],
-    first: &mut [u32],
-    exits: &mut [f64],
-    strengths: &mut [f64],
-    order: &[u32],
-    start: PassState,
-) -> PassState
-    requires { ⌜ (Sized (now table) stride (now strength) (now partition) (now first) (now exits) (now strengths)) × (Firsts (now partition) (now first)) × (Below (length (now partition)) (now order)) × (length (now order) ≤ 512) ⌝ }
-    ensures { λ r. ⌜ (passOf (now (partition .exit)) (now (exits .exit)) (now (strengths .exit)) r ≡ movePass (netOf (now (table .entry)) stride (now (strength .entry)) d) (passOf (now (partition .entry)) (now (exits .entry)) (now (strengths .entry)) start) (now (order .entry)))
-        × Firsts (now (partition .exit)) (now (first .exit)) ⌝ }
+    partition: &[u32],
+    first: &[u32],
+    exits: &[f64],
+    strengths: &[f64],
+    q: f64,
+    u: usize,
+    alone: bool,
+) -> Scan
+    requires { ⌜ Testable (now table) stride (now strength) (now partition) (now first) (now exits) (now strengths) u ⌝ }
+    ensures { λ r. ⌜ answerOf r
+        ≡ asked alone (netOf (now (table .entry)) stride (now (strength .entry)) d) (stateOf (now (partition .entry)) (now (exits .entry)) (now (strengths .entry)) q) u ⌝ }
 {
-    let mut w = start;
-    let mut i = 0;
-    while i < order.len() {
-        let u = map_state::wide(order[i]);
-        let q = w.q;
-        let a = scan::scan_node(
+    if alone {
+        return scan::isolate(
             table,
             stride,
             strength,
@@ -100,6 +98,59 @@ fn move_pass(
             strengths,
             q,
             u,
+        );
+    }
+    scan::scan_node(
+        table,
+        stride,
+        strength,
+        d,
+        partition,
+        first,
+        exits,
+        strengths,
+        q,
+        u,
+    )
+}
+
+// Asks the nodes in their order, and moves each as it is answered: the isolation pass if `alone`, else the pass of scans.
+fn pass(
+    table: &[f64],
+    stride: usize,
+    strength: &[f64],
+    d: f64,
+    partition: &mut [u32],
+    first: &mut [u32],
+    exits: &mut [f64],
+    strengths: &mut [f64],
+    order: &[u32],
+    start: PassState,
+    alone: bool,
+) -> PassState
+    requires { ⌜ PassFrom (now table) stride (now strength) (now partition) (now first) (now exits) (now strengths) (now order) ⌝ }
+    ensures { λ r. ⌜ PassEnds
+        (pass (asked alone) (netOf (now (table .entry)) stride (now (strength .entry)) d)
+        (passOf (now (partition .entry)) (now (exits .entry)) (now (strengths .entry)) start) (now (order .entry)))
+        (now (partition .exit)) (now (first .exit)) (now (exits .exit)) (now (strengths .exit)) r ⌝ }
+{
+    let mut w = start;
+    let mut i = 0;
+    while i < order.len() {
+        let u = lists::wide(order[i]);
+        let q = w.q;
+        let a = ask(
+            table,
+            stride,
+            strength,
+            d,
+            partition,
+            first,
+            exits,
+            strengths,
+            q,
+            u,
+            alone,
         );
         w = act(
             table,
@@ -119,58 +170,6 @@ fn move_pass(
     w
 }
 
-// Tests the nodes in their order, and moves each that gains by it to a new group.
-fn isolation_pass(
-    table: &[f64],
-    stride: usize,
-    strength: &[f64],
-    d: f64,
-    partition: &mut [u32],
-    first: &mut [u32],
-    exits: &mut [f64],
-    strengths: &mut [f64],
-    order: &[u32],
-    start: PassState,
-) -> PassState
-    requires { ⌜ (Sized (now table) stride (now strength) (now partition) (now first) (now exits) (now strengths)) × (Firsts (now partition) (now first)) × (Below (length (now partition)) (now order)) × (length (now order) ≤ 512) × (AtMost 900000 (now partition)) ⌝ }
-    ensures { λ r. ⌜ (passOf (now (partition .exit)) (now (exits .exit)) (now (strengths .exit)) r ≡ isolationPass (netOf (now (table .entry)) stride (now (strength .entry)) d) (passOf (now (partition .entry)) (now (exits .entry)) (now (strengths .entry)) start) (now (order .entry)))
-        × Firsts (now (partition .exit)) (now (first .exit)) ⌝ }
-{
-    let mut w = start;
-    let mut k = 0;
-    while k < order.len() {
-        let u = map_state::wide(order[k]);
-        let q = w.q;
-        let a = scan::isolate(
-            table,
-            stride,
-            strength,
-            d,
-            partition,
-            first,
-            exits,
-            strengths,
-            q,
-            u,
-        );
-        w = act(
-            table,
-            stride,
-            strength,
-            d,
-            partition,
-            first,
-            exits,
-            strengths,
-            w,
-            u,
-            a,
-        );
-        k += 1;
-    }
-    w
-}
-
 // One round: an order of visiting, a pass of moves and an isolation pass.
 fn round(
     table: &[f64],
@@ -184,13 +183,14 @@ fn round(
     order: &mut [u32],
     t: RunState,
 ) -> RunState
-    requires { ⌜ (Sized (now table) stride (now strength) (now partition) (now first) (now exits) (now strengths)) × (Firsts (now partition) (now first)) × (length (now order) ≡ length (now partition)) × (AtMost 800000 (now partition)) × (t .rounds < 1000) ⌝ }
-    ensures { λ r. ⌜ (runOf (now (partition .exit)) (now (exits .exit)) (now (strengths .exit)) r ≡ round (netOf (now (table .entry)) stride (now (strength .entry)) d) (runOf (now (partition .entry)) (now (exits .entry)) (now (strengths .entry)) t))
-        × (Firsts (now (partition .exit)) (now (first .exit)))
-        × (now (order .exit) ≡ visits (netOf (now (table .entry)) stride (now (strength .entry)) d) (runOf (now (partition .entry)) (now (exits .entry)) (now (strengths .entry)) t)) ⌝ }
+    requires { ⌜ (RoundFrom 800000 (now table) stride (now strength) (now partition) (now first) (now exits) (now strengths) (now order)) × (t .rounds < 1000) ⌝ }
+    ensures { λ r. ⌜ RoundEnds
+        (round (netOf (now (table .entry)) stride (now (strength .entry)) d) (runOf (now (partition .entry)) (now (exits .entry)) (now (strengths .entry)) t))
+        (visits (netOf (now (table .entry)) stride (now (strength .entry)) d) (runOf (now (partition .entry)) (now (exits .entry)) (now (strengths .entry)) t))
+        (now (partition .exit)) (now (first .exit)) (now (exits .exit)) (now (strengths .exit)) (now (order .exit)) r ⌝ }
 {
     let rng = rng::draw_order(order, t.rng);
-    let w = move_pass(
+    let w = pass(
         table,
         stride,
         strength,
@@ -204,8 +204,9 @@ fn round(
             q: t.q,
             moved: false,
         },
+        false,
     );
-    let v = isolation_pass(
+    let v = pass(
         table,
         stride,
         strength,
@@ -216,6 +217,7 @@ fn round(
         strengths,
         order,
         w,
+        true,
     );
     RunState {
         q: v.q,
@@ -238,10 +240,13 @@ fn run_rounds(
     order: &mut [u32],
     start: RunState,
 ) -> RunState
-    requires { ⌜ (Sized (now table) stride (now strength) (now partition) (now first) (now exits) (now strengths)) × (Firsts (now partition) (now first)) × (length (now order) ≡ length (now partition)) × (AtMost 512 (now partition)) × (start .rounds ≡ 0) ⌝ }
-    ensures { λ r. ⌜ (runOf (now (partition .exit)) (now (exits .exit)) (now (strengths .exit)) r ≡ runRounds (netOf (now (table .entry)) stride (now (strength .entry)) d) 100 true (runOf (now (partition .entry)) (now (exits .entry)) (now (strengths .entry)) start))
-        × (Firsts (now (partition .exit)) (now (first .exit)))
-        × (now (order .exit) ≡ lastVisitsFrom (netOf (now (table .entry)) stride (now (strength .entry)) d) 100 true (runOf (now (partition .entry)) (now (exits .entry)) (now (strengths .entry)) start) (now (order .entry))) ⌝ }
+    requires { ⌜ (RoundFrom 512 (now table) stride (now strength) (now partition) (now first) (now exits) (now strengths) (now order)) × (start .rounds ≡ 0) ⌝ }
+    ensures { λ r. ⌜ RoundEnds
+        (runRounds (netOf (now (table .entry)) stride (now (strength .entry)) d) 100 true
+        (runOf (now (partition .entry)) (now (exits .entry)) (now (strengths .entry)) start))
+        (lastVisitsFrom (netOf (now (table .entry)) stride (now (strength .entry)) d) 100 true
+        (runOf (now (partition .entry)) (now (exits .entry)) (now (strengths .entry)) start) (now (order .entry)))
+        (now (partition .exit)) (now (first .exit)) (now (exits .exit)) (now (strengths .exit)) (now (order .exit)) r ⌝ }
 {
     let mut t = start;
     let mut more = true;
@@ -282,7 +287,8 @@ pub fn optimize_partition(
     rng: u64,
 ) -> RunState
     requires { ⌜ (Sized (now table) stride (now strength) (now partition) (now first) (now exits) (now strengths)) × (length (now order) ≡ length (now partition)) ⌝ }
-    ensures { λ r. ⌜ TrialEnds (netOf (now (table .entry)) stride (now (strength .entry)) d) rng (now (partition .exit)) (now (first .exit)) (now (exits .exit)) (now (strengths .exit)) (now (order .exit)) r ⌝ }
+    ensures { λ r. ⌜ TrialEnds (netOf (now (table .entry)) stride (now (strength .entry)) d) rng
+        (now (partition .exit)) (now (first .exit)) (now (exits .exit)) (now (strengths .exit)) (now (order .exit)) r ⌝ }
 {
     rng::fill(partition);
     rng::fill(first);

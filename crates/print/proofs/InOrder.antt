@@ -8,13 +8,20 @@ use native.Mathlib.Omega.{arith}
 use lib.ListN.{length, length-append, getD, take, drop, List·getD-eq-default}
 use lib.Seq.{getD-append-seam}
 use lib.IntN.{ℤ}
-use Rattle.text.specs.Values.{FixLine, inside, read, withFix, lengthsFrom, lengthsOf, Rising}
+use Rattle.text.specs.Values.{FixLine, inside, read, withFix, lengthsFrom, lengthsOf}
+use Rattle.text.proofs.TracesRise.{TracesRise}
 use Rattle.text.proofs.Lengths.{with-next, with-last}
 use Rattle.text.proofs.Pieces.{rises}
-use Rattle.tracks.specs.declared.config.Config.{Config}
+use Rattle.settings.specs.declared.config.Config.{Config}
 use Rattle.print.specs.Facts
 use Rattle.print.specs.Lines.{line, traceLines, lines, labelNames, labelsText}
-use Rattle.print.specs.InOrder.{inOrder}
+
+-- The printed lines in the order of the fixes: each with its trace, its number within the trace, and its label. After fixes in traces of the lengths ns:
+-- a fix of trace t has the number of those of its trace that came before.
+unfoldable pub inOrder : List ℕ → List FixLine → List ℤ → List ℕ
+inOrder ns [] ls = []
+inOrder ns (p ∷ ps) [] = []
+inOrder ns (p ∷ ps) (l ∷ ls) = line (p .trace) (getD ns (p .trace) 0) l ++ inOrder (withFix ns (p .trace)) ps ls
 
 -- The lines of a trace t from its fix k on, which has n fixes in all, and of the traces after it.
 from : ℕ → ℕ → ℕ → List ℕ → List ℤ → List ℕ
@@ -49,7 +56,8 @@ unfolding from traceLines lines
 from-end t k ls = rw (nothing k)
 
 -- A fix of the same trace, and those after it.
-same-trace : (p : FixLine) (ps : List FixLine) (ms : List ℕ) (k : ℕ) → p .trace ≡ length ms → withFix (ms ++ (k ∷ [])) (p .trace) ≡ ms ++ (suc k ∷ []) → Ahead ms (suc k) ps → Ahead ms k (p ∷ ps)
+same-trace : (p : FixLine) (ps : List FixLine) (ms : List ℕ) (k : ℕ) → p .trace ≡ length ms → withFix (ms ++ (k ∷ [])) (p .trace) ≡ ms ++ (suc k ∷ [])
+    → Ahead ms (suc k) ps → Ahead ms k (p ∷ ps)
 unfolding lengthsFrom inOrder
 same-trace p ps ms k u x A = record { n = A .n; ns = A .ns; most = omega (arith, A .most); ends = rw x (A .ends); prints = go }
   where
@@ -67,7 +75,9 @@ same-trace p ps ms k u x A = record { n = A .n; ns = A .ns; most = omega (arith,
         ∙ sym (rw (number, x, u))
 
 -- A fix of the next trace, and those after it.
-next-trace : (p : FixLine) (ps : List FixLine) (ms : List ℕ) (k : ℕ) → p .trace ≡ suc (length ms) → withFix (ms ++ (k ∷ [])) (p .trace) ≡ (ms ++ (k ∷ [])) ++ (1 ∷ []) → length (ms ++ (k ∷ [])) ≡ suc (length ms) → Ahead (ms ++ (k ∷ [])) 1 ps → Ahead ms k (p ∷ ps)
+next-trace : (p : FixLine) (ps : List FixLine) (ms : List ℕ) (k : ℕ) → p .trace ≡ suc (length ms)
+    → withFix (ms ++ (k ∷ [])) (p .trace) ≡ (ms ++ (k ∷ [])) ++ (1 ∷ []) → length (ms ++ (k ∷ [])) ≡ suc (length ms) → Ahead (ms ++ (k ∷ [])) 1 ps
+    → Ahead ms k (p ∷ ps)
 unfolding lengthsFrom inOrder
 next-trace p ps ms k u x long A = record { n = k; ns = A .n ∷ A .ns; most = omega arith; ends = rw x (A .ends ∙ append-assoc ms (k ∷ []) (A .n ∷ A .ns)); prints = go }
   where
@@ -88,8 +98,8 @@ next-trace p ps ms k u x long A = record { n = k; ns = A .n ∷ A .ns; most = om
         ∙ ap (λ (r : List ℕ). line (suc (length ms)) 0 l ++ r) (rest ls (omega arith))
         ∙ sym (rw (number, x, u))
 
-ahead : (ps : List FixLine) (ms : List ℕ) (k : ℕ) → Rising (suc (length ms)) ps → Ahead ms k ps
-unfolding Rising lengthsFrom inOrder
+ahead : (ps : List FixLine) (ms : List ℕ) (k : ℕ) → TracesRise (suc (length ms)) ps → Ahead ms k ps
+unfolding TracesRise lengthsFrom inOrder
 ahead [] ms k r = record { n = k; ns = []; most = omega arith; ends = refl; prints = λ ls. λ e. from-end (length ms) k ls }
 ahead (p ∷ ps) ms k (inl a, r) =
     let ts = ms ++ (k ∷ []) in
@@ -107,8 +117,8 @@ ahead (p ∷ ps) ms k (inr a, r) =
     same-trace p ps ms k u x A
 
 -- Traces that rise from 0: the lines stand in the order of the fixes.
-lines-in-order : (ps : List FixLine) (ls : List ℤ) → Rising 0 ps → length ls ≡ length ps → lines 0 (lengthsOf ps) ls ≡ inOrder [] ps ls
-unfolding Rising lengthsOf lengthsFrom withFix lines inOrder from
+lines-in-order : (ps : List FixLine) (ls : List ℤ) → TracesRise 0 ps → length ls ≡ length ps → lines 0 (lengthsOf ps) ls ≡ inOrder [] ps ls
+unfolding TracesRise lengthsOf lengthsFrom withFix lines inOrder from
 lines-in-order [] ls r e = refl
 lines-in-order (p ∷ ps) [] r e = absurd (omega arith)
 lines-in-order (p ∷ ps) (l ∷ ls) (inr a, r) e = absurd (omega arith)
@@ -121,6 +131,7 @@ lines-in-order (p ∷ ps) (l ∷ ls) (inl a, r) e =
     ∙ ap (λ (t : ℕ). line t 0 l ++ inOrder (1 ∷ []) ps ls) (sym a)
 
 -- For a text t with the fixes ps, and a label for each: what is printed are the lines of t in their order.
-pub labels-in-order : (t : List ℕ) (c : Config) (ps : List FixLine) (ls : List ℤ) → read t ≡ inside c ps → length ls ≡ length ps → labelsText (lengthsOf ps) ls ≡ labelNames ++ inOrder [] ps ls
+pub labels-in-order : (t : List ℕ) (c : Config) (ps : List FixLine) (ls : List ℤ) → read t ≡ inside c ps → length ls ≡ length ps
+    → labelsText (lengthsOf ps) ls ≡ labelNames ++ inOrder [] ps ls
 unfolding labelsText
 labels-in-order t c ps ls q e = ap (λ (r : List ℕ). labelNames ++ r) (lines-in-order ps ls (rises t c ps q) e)

@@ -13,8 +13,8 @@ use lib.Dec.{T}
 use lib.Signed.{leZ, nonNeg}
 use mir.Syntax.{w32, w64}
 use mir.Val.{Fits, SFits}
-use Rattle.print.specs.Lines.{decimal, isNumber, labelText, line, traceLines, lines}
-use Rattle.print.specs.Written.{Out, pushes}
+use Rattle.print.specs.Lines.{decimal, labelText, line, traceLines, lines}
+use Rattle.print.specs.Steps.{Out, pushes, isNumber}
 use Rattle.print.proofs.Pushes.{and-then}
 
 -- ---- labels
@@ -41,7 +41,8 @@ label-none o o₁ (negsuc m) g p = p
 
 -- ---- the lines of a trace
 
-pub trace-on : (o o₁ : Out) (ls : List ℤ) (t f : ℕ) {v : Out} → f < length ls → o₁ ≡ pushes o (line t f (getD ls f (pos 0))) → pushes o (traceLines t f (drop f ls)) ≡ v → pushes o₁ (traceLines t (f + 1) (drop (f + 1) ls)) ≡ v
+pub trace-on : (o o₁ : Out) (ls : List ℤ) (t f : ℕ) {v : Out} → f < length ls → o₁ ≡ pushes o (line t f (getD ls f (pos 0)))
+    → pushes o (traceLines t f (drop f ls)) ≡ v → pushes o₁ (traceLines t (f + 1) (drop (f + 1) ls)) ≡ v
 unfolding traceLines
 trace-on o o₁ ls t f h e p =
     let w = traceLines t (f + 1) (drop (f + 1) ls) in
@@ -66,7 +67,9 @@ drop-least (suc n) [] = simp unary-clauses
 drop-least (suc n) (l ∷ ls) = simp unary-clauses (drop-least n ls)
 
 -- The next trace: its labels are the k from i on.
-pub lines-on : (o o₁ : Out) (lens : List ℕ) (ls : List ℤ) (t i k j : ℕ) {v : Out} → t < length lens → k ≡ min (getD lens t 0) (length ls - i) → o₁ ≡ pushes o (traceLines t 0 (take j (drop i ls))) → j ≡ k → pushes o (lines t (drop t lens) (drop i ls)) ≡ v → pushes o₁ (lines (t + 1) (drop (t + 1) lens) (drop (i + k) ls)) ≡ v
+pub lines-on : (o o₁ : Out) (lens : List ℕ) (ls : List ℤ) (t i k j : ℕ) {v : Out} → t < length lens → k ≡ min (getD lens t 0) (length ls - i)
+    → o₁ ≡ pushes o (traceLines t 0 (take j (drop i ls))) → j ≡ k → pushes o (lines t (drop t lens) (drop i ls)) ≡ v
+    → pushes o₁ (lines (t + 1) (drop (t + 1) lens) (drop (i + k) ls)) ≡ v
 unfolding lines
 lines-on o o₁ lens ls t i k j h m e s p =
     let n = getD lens t 0 in

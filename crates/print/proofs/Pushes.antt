@@ -8,7 +8,7 @@ use borrow.Author.Tests.{lt-ltb, le-ltb}
 use lib.ListN.{length, getD, drop, drop-of-length-le}
 use lib.Seq.{drop-cons}
 use Rattle.print.specs.Lines.{digits}
-use Rattle.print.specs.Written.{Out, push, pushes}
+use Rattle.print.specs.Steps.{Out, push, pushes}
 
 pushes-append : (o : Out) (a b : List ℕ) → pushes o (a ++ b) ≡ pushes (pushes o a) b
 unfolding pushes
@@ -29,7 +29,8 @@ unfolding pushes
 one o o₁ x p = p
 
 -- A loop over a text.
-pub push-on : (o o₁ : Out) (text : List ℕ) (i : ℕ) {v : Out} → i < length text → o₁ ≡ push o (getD text i 0) → pushes o (drop i text) ≡ v → pushes o₁ (drop (i + 1) text) ≡ v
+pub push-on : (o o₁ : Out) (text : List ℕ) (i : ℕ) {v : Out} → i < length text → o₁ ≡ push o (getD text i 0) → pushes o (drop i text) ≡ v
+    → pushes o₁ (drop (i + 1) text) ≡ v
 unfolding pushes
 push-on o o₁ text i h e p = ap (λ (r : Out). pushes r (drop (i + 1) text)) e ∙ (rw (drop-cons text i 0 h, ← add-one i) at p)
 

@@ -2,17 +2,19 @@
 use mathlib.Core.Path.{_≡_, refl, _∙_}
 use mathlib.Core.Bool.{Bool, true, false, cond, _&&_}
 use mathlib.Core.List.{List, [], _∷_, _++_, append-assoc}
+use mathlib.Core.Option.{some, bind}
 use Prim.Native.Nat.{ℕ, zero, suc, _+_, _-_, _*_, _^_, _/_, _%_, _≤_, _<_}
 use native.Mathlib.Numerals.{unary-clauses}
 use native.Mathlib.Omega.{arith}
-use borrow.Author.Tests.{ltb-true, le-leb, ne-eqb, eq-eqb, leb-true}
+use borrow.Author.Tests.{ltb-true, le-leb, ne-eqb, eq-eqb}
 use lib.Dec.{leb, ltb}
 use lib.ListN.{length, length-append}
 use lib.IntN.{ℤ, pos, negsuc, natAbs}
 use Rattle.lists.proofs.Tests.{and-left, and-right}
 use Rattle.text.specs.Bytes.{isDigit, space, lineFeed}
 use Rattle.text.specs.Fields.{Field, number, allDigits, sizeFrom, digitsOf, afterMinus, fieldOf, isField}
-use Rattle.text.specs.Form.{cutAt, cons, cut, row, add, rowIf, put, rowAfter, rowOf}
+use Rattle.text.specs.Form.{onlyIf, cut, rowOf}
+use Rattle.text.proofs.Numbers.{digit-low}
 use Rattle.print.specs.Lines.{digits, decimal, labelText, line}
 
 -- ---- digits
@@ -52,7 +54,8 @@ unfolding digits sizeFrom
 digits-size zero n h = omega arith
 digits-size (suc f) n h = go (ltb n 10) refl (λ k. digits-size f (n / 10) k)
   where
-    go : (b : Bool) → ltb n 10 ≡ b → (n / 10 < 10 ^ f → sizeFrom 0 (digits f (n / 10)) ≡ n / 10) → sizeFrom 0 (cond b ((48 + n) ∷ []) (digits f (n / 10) ++ ((48 + n % 10) ∷ []))) ≡ n
+    go : (b : Bool) → ltb n 10 ≡ b → (n / 10 < 10 ^ f → sizeFrom 0 (digits f (n / 10)) ≡ n / 10)
+        → sizeFrom 0 (cond b ((48 + n) ∷ []) (digits f (n / 10) ++ ((48 + n % 10) ∷ []))) ≡ n
     go true e i = omega arith
     go false e i = size-append (digits f (n / 10)) (48 + n % 10) 0 ∙ rw (i (omega (arith, power f))) (parts n)
       where
@@ -68,10 +71,6 @@ digits-some f n = go (ltb n 10)
     go : (b : Bool) → 1 ≤ length (cond b ((48 + n) ∷ []) (digits f (n / 10) ++ ((48 + n % 10) ∷ [])))
     go true = omega arith
     go false = rw (length-append (digits f (n / 10)) ((48 + n % 10) ∷ [])) (omega arith)
-
-digit-low : (b : ℕ) → isDigit b ≡ true → 48 ≤ b
-unfolding isDigit
-digit-low b h = leb-true 48 b (and-left (leb 48 b) (leb b 57) h)
 
 opened : (b : ℕ) (bs : List ℕ) → allDigits (b ∷ bs) ≡ true → isDigit b && allDigits bs ≡ true
 unfolding allDigits
@@ -107,8 +106,8 @@ unfoldable Without : ℕ → List ℕ → Type 0
 Without e [] = Unit
 Without e (b ∷ bs) = (b ≡ e → ⊥) × Without e bs
 
-cut-here : (e : ℕ) (f r : List ℕ) → Without e f → cut e (f ++ (e ∷ r)) ≡ cutAt f r
-unfolding Without cut cons
+cut-here : (e : ℕ) (f r : List ℕ) → Without e f → cut e (f ++ (e ∷ r)) ≡ some (f, r)
+unfolding Without cut
 cut-here e [] r w = rw (eq-eqb e e refl)
 cut-here e (b ∷ f) r (n, w) = rw (ne-eqb b e n, cut-here e f r w)
 
@@ -136,8 +135,9 @@ unfolding labelText labelField fieldOf afterMinus digitsOf allDigits isDigit siz
 label-reads (pos n) h = decimal-reads n h
 label-reads (negsuc n) h = refl
 
-row-on : (e : ℕ) (es f r : List ℕ) (F : Field) (fs : List Field) (t : List ℕ) → Without e f → fieldOf f ≡ F → isField F ≡ true → rowOf es r ≡ row fs t → rowOf (e ∷ es) (f ++ (e ∷ r)) ≡ row (F ∷ fs) t
-unfolding rowOf rowAfter put rowIf add
+row-on : (e : ℕ) (es f r : List ℕ) (F : Field) (fs : List Field) (t : List ℕ) → Without e f → fieldOf f ≡ F → isField F ≡ true → rowOf es r ≡ some (fs, t)
+    → rowOf (e ∷ es) (f ++ (e ∷ r)) ≡ some ((F ∷ fs), t)
+unfolding rowOf bind onlyIf
 row-on e es f r F fs t w p i q = rw (cut-here e f r w, p, i, q)
 
 label-is : (l : ℤ) → isField (labelField l) ≡ true
@@ -149,12 +149,13 @@ number-is : (n : ℕ) → isField (number false n) ≡ true
 unfolding isField
 number-is n = refl
 
-row-end : (r : List ℕ) → rowOf [] r ≡ row [] r
+row-end : (r : List ℕ) → rowOf [] r ≡ some ([], r)
 unfolding rowOf
 row-end r = refl
 
 -- A line reads back as its trace, fix and label.
-pub line-reads : (t f : ℕ) (l : ℤ) (r : List ℕ) → t ≤ 1000000000 → f ≤ 1000000000 → natAbs l ≤ 1000000000 → rowOf (space ∷ space ∷ lineFeed ∷ []) (line t f l ++ r) ≡ row (number false t ∷ number false f ∷ labelField l ∷ []) r
+pub line-reads : (t f : ℕ) (l : ℤ) (r : List ℕ) → t ≤ 1000000000 → f ≤ 1000000000 → natAbs l ≤ 1000000000
+    → rowOf (space ∷ space ∷ lineFeed ∷ []) (line t f l ++ r) ≡ some ((number false t ∷ number false f ∷ labelField l ∷ []), r)
 unfolding line
 line-reads t f l r a b c =
     let s : (decimal t ++ (space ∷ decimal f ++ (space ∷ labelText l ++ (lineFeed ∷ [])))) ++ r ≡ decimal t ++ (space ∷ (decimal f ++ (space ∷ (labelText l ++ (lineFeed ∷ r))))) = simp append-assoc in

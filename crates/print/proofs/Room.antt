@@ -2,17 +2,18 @@
 use mathlib.Core.Path.{_≡_, refl, sym, ap, _∙_}
 use mathlib.Core.Bool.{Bool, true, false, cond}
 use mathlib.Core.List.{List, [], _∷_, _++_, append-assoc, append-nil}
-use Prim.Native.Nat.{ℕ, zero, suc, _+_, _≤_, _<_}
+use Prim.Native.Nat.{ℕ, _+_, _≤_, _<_}
 use native.Mathlib.Omega.{arith}
 use borrow.Author.Tests.{le-ltb, ltb-true, ltb-false}
 use lib.Dec.{ltb}
-use lib.ListN.{length, length-append, set, take}
+use lib.ListN.{length, length-append, set, take, length-take}
 use lib.Seq.{take-all, take-append-le, length-take-le, take-nil}
 use Rattle.lists.specs.Lists.{overlay}
 use Rattle.lists.proofs.Overlay.{length-overlay}
 use Rattle.text.specs.Parsed.{into}
 use Rattle.text.proofs.Columns.{into-nil, into-more}
-use Rattle.print.specs.Written.{Writes, Out, out, push, pushes}
+use Rattle.print.specs.Written.{Writes}
+use Rattle.print.specs.Steps.{Out, out, push, pushes}
 
 module _ (l : List ℕ) where
   -- The slice l with the text t in front.
@@ -21,12 +22,7 @@ module _ (l : List ℕ) where
 
   into-length : (t : List ℕ) → length (into l t) ≡ length l
   unfolding into
-  into-length t = length-overlay (take (length l) t) l (short t (length l))
-    where
-      short : (t : List ℕ) (n : ℕ) → length (take n t) ≤ n
-      short t zero = omega arith
-      short [] (suc n) = omega arith
-      short (b ∷ t) (suc n) = let r = short t n in omega arith
+  into-length t = length-overlay (take (length l) t) l (omega (arith, length-take (length l) t))
 
   cut-alike : (t u : List ℕ) → take (length l) t ≡ take (length l) u → into l t ≡ into l u
   unfolding into
@@ -40,7 +36,9 @@ module _ (l : List ℕ) where
       long : length (t ++ (b ∷ [])) ≡ length t + 1
       long = length-append t (b ∷ [])
 
-      go : (x : Bool) → ltb (length t) (length l) ≡ x → cond (ltb (length (take (length l) t)) (length (into l t))) (out (set (into l t) (length (take (length l) t)) b) (length (take (length l) t) + 1)) (out (into l t) (length (take (length l) t))) ≡ out (into l (t ++ (b ∷ []))) (length (take (length l) (t ++ (b ∷ []))))
+      go : (x : Bool) → ltb (length t) (length l) ≡ x
+          → cond (ltb (length (take (length l) t)) (length (into l t))) (out (set (into l t) (length (take (length l) t)) b) (length (take (length l) t) + 1)) (out (into l t) (length (take (length l) t)))
+          ≡ out (into l (t ++ (b ∷ []))) (length (take (length l) (t ++ (b ∷ []))))
       go true e =
           let h : length t < length l = ltb-true _ _ e in
           let a : take (length l) t ≡ t = take-all (length l) t (omega arith) in

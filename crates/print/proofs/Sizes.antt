@@ -11,8 +11,8 @@ use lib.IntN.{ℤ, pos, negsuc}
 use Rattle.lists.specs.Lists.{overlay}
 use Rattle.lists.proofs.Overlay.{take-front}
 use Rattle.text.specs.Parsed.{into}
-use Rattle.tracks.specs.declared.refusal.Refusal.{Refusal}
-use Rattle.tracks.specs.Refusals.{numberOf, traceOf}
+use Rattle.settings.specs.declared.refusal.Refusal.{Refusal}
+use Rattle.settings.specs.Refusals.{numberOf, traceOf}
 use Rattle.print.specs.Lines.{digits, decimal, labelText, line, traceLines, lines, labelNames, labelsText, refusedNames, refusalText}
 use Rattle.print.specs.Written.{Writes}
 
@@ -91,7 +91,8 @@ whole text l r l' w h =
     let n : r ≡ length text = w .count ∙ ap length a in
     (n, take-front text l l' r n (w .bytes ∙ ap (λ (t : List ℕ). overlay t l) a))
 
-pub labels-whole : (ns : List ℕ) (ls : List ℤ) (l : List ℕ) (r : ℕ) (l' : List ℕ) → Writes (labelsText ns ls) l r l' → length ls ≤ 768 → length l ≡ 49152 → take r l' ≡ labelsText ns ls
+pub labels-whole : (ns : List ℕ) (ls : List ℤ) (l : List ℕ) (r : ℕ) (l' : List ℕ) → Writes (labelsText ns ls) l r l' → length ls ≤ 768 → length l ≡ 49152
+    → take r l' ≡ labelsText ns ls
 labels-whole ns ls l r l' w h e = let a = labels-length ns ls in whole (labelsText ns ls) l r l' w (omega arith) .1
 
 pub refusal-whole : (e : Refusal) (l : List ℕ) (r : ℕ) (l' : List ℕ) → Writes (refusalText e) l r l' → length l ≡ 64 → take r l' ≡ refusalText e

@@ -3,8 +3,8 @@ use mathlib.Core.Path.{_≡_, refl}
 use mathlib.Core.List.{List, [], _∷_}
 use Prim.Native.Nat.{ℕ}
 use lib.IntN.{ℤ, pos, negsuc}
-use Rattle.tracks.specs.declared.refusal.Refusal.{Refusal}
-use Rattle.tracks.specs.declared.refusal.Refusal.the-variants.{TimeOrder, PartlyTimed, Text}
+use Rattle.settings.specs.declared.refusal.Refusal.{Refusal}
+use Rattle.settings.specs.declared.refusal.Refusal.the-variants.{TimeOrder, PartlyTimed, Text}
 use Rattle.text.specs.Bytes.{bytes}
 use Rattle.print.specs.Lines.{digits, decimal, labelText, line, traceLines, lines, labelNames, labelsText, refusedNames, refusalText}
 

@@ -1,4 +1,4 @@
 pub mod Lines
-pub mod InOrder
 pub mod Written
+pub mod Steps
 pub mod Facts

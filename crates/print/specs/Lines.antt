@@ -1,12 +1,12 @@
--- What the program `stops` prints (docs/RULES.md, "Program `stops`"), as lists of bytes. Definitions only.
+-- What the program `stops` prints (docs/RULES.md, "Program `stops`"), as lists of bytes.
 use Prim.Native.Nat.{ℕ, zero, suc, _+_, _/_, _%_}
-use mathlib.Core.Bool.{Bool, true, false, cond}
+use mathlib.Core.Bool.{cond}
 use mathlib.Core.List.{List, [], _∷_, _++_}
 use lib.ListN.{take, drop}
 use lib.Dec.{ltb}
 use lib.IntN.{ℤ, pos, negsuc}
-use Rattle.tracks.specs.declared.refusal.Refusal.{Refusal}
-use Rattle.tracks.specs.Refusals.{numberOf, traceOf}
+use Rattle.settings.specs.declared.refusal.Refusal.{Refusal}
+use Rattle.settings.specs.Refusals.{numberOf, traceOf}
 use Rattle.text.specs.Bytes.{bytes, lineFeed, space}
 
 -- The decimal digits of n, at most f of them.
@@ -19,10 +19,6 @@ unfoldable pub decimal : ℕ → List ℕ
 decimal n = digits 20 n
 
 -- A label is a number from 0 up, or -1 for none; a fit gives no other.
-unfoldable pub isNumber : ℤ → Bool
-isNumber (pos n) = true
-isNumber (negsuc n) = false
-
 unfoldable pub labelText : ℤ → List ℕ
 unfolding bytes
 labelText (pos n) = decimal n

@@ -1,5 +1,5 @@
 // What the program `stops` prints (docs/RULES.md, "Program `stops`"), into a lent slice of bytes.
-use tracks::refusal::Refusal;
+use settings::refusal::Refusal;
 ghost use Rattle.print.specs.Lines.{labelsText, refusalText};
 ghost use Rattle.print.specs.Written.{Writes};
 
@@ -19,8 +19,8 @@ pub fn print_refusal(e: Refusal, out: &mut [u8]) -> usize
     ensures { λ r. ⌜ Writes (refusalText e) (now (out .entry)) r (now (out .exit)) ⌝ }
 {
     let a = bytes::push_all(out, 0, b"refused trace\n");
-    let b = bytes::put_number(out, a, tracks::refusal::number(e) as u64);
+    let b = bytes::put_number(out, a, settings::refusal::number(e) as u64);
     let c = bytes::push(out, b, b' ');
-    let d = bytes::put_number(out, c, tracks::refusal::trace(e) as u64);
+    let d = bytes::put_number(out, c, settings::refusal::trace(e) as u64);
     bytes::push(out, d, b'\n')
 }

@@ -3,8 +3,8 @@ ghost use mathlib.Core.Path.{_≡_};
 ghost use mathlib.Core.Bool.{true};
 ghost use Prim.Native.Nat.{min};
 ghost use lib.IntN.{natAbs};
-ghost use Rattle.print.specs.Lines.{isNumber, labelText, line as Lines·line, traceLines, lines as Lines·lines};
-ghost use Rattle.print.specs.Written.{out as Written·out, pushes};
+ghost use Rattle.print.specs.Lines.{labelText, line as Lines·line, traceLines, lines as Lines·lines};
+ghost use Rattle.print.specs.Steps.{out as Steps·out, pushes, isNumber};
 
 fn is_number(l: i32) -> bool
     ensures { λ r. ⌜ r ≡ isNumber l ⌝ }
@@ -21,7 +21,7 @@ fn number(l: i32) -> u64
 
 // A label, or -1.
 fn put_label(out: &mut [u8], at: usize, l: i32) -> usize
-    ensures { λ r. ⌜ Written·out (now (out .exit)) r ≡ pushes (Written·out (now (out .entry)) at) (labelText l) ⌝ }
+    ensures { λ r. ⌜ Steps·out (now (out .exit)) r ≡ pushes (Steps·out (now (out .entry)) at) (labelText l) ⌝ }
 {
     if is_number(l) {
         return crate::bytes::put_number(out, at, number(l));
@@ -31,7 +31,7 @@ fn put_label(out: &mut [u8], at: usize, l: i32) -> usize
 
 // A line `trace fix label`.
 fn put_line(out: &mut [u8], at: usize, t: u64, f: u64, l: i32) -> usize
-    ensures { λ r. ⌜ Written·out (now (out .exit)) r ≡ pushes (Written·out (now (out .entry)) at) (Lines·line t f l) ⌝ }
+    ensures { λ r. ⌜ Steps·out (now (out .exit)) r ≡ pushes (Steps·out (now (out .entry)) at) (Lines·line t f l) ⌝ }
 {
     let a = crate::bytes::put_number(out, at, t);
     let b = crate::bytes::push(out, a, b' ');
@@ -43,7 +43,7 @@ fn put_line(out: &mut [u8], at: usize, t: u64, f: u64, l: i32) -> usize
 
 // The lines of trace t, whose fixes have these labels.
 fn put_trace(out: &mut [u8], at: usize, t: u64, labels: &[i32]) -> usize
-    ensures { λ r. ⌜ Written·out (now (out .exit)) r ≡ pushes (Written·out (now (out .entry)) at) (traceLines t 0 (now (labels .entry))) ⌝ }
+    ensures { λ r. ⌜ Steps·out (now (out .exit)) r ≡ pushes (Steps·out (now (out .entry)) at) (traceLines t 0 (now (labels .entry))) ⌝ }
 {
     let mut k = at;
     let mut f = 0;
@@ -62,7 +62,7 @@ fn least(a: usize, b: usize) -> usize
 
 // The lines of all traces. Where there are fewer labels than the lengths say, those that are there.
 pub fn put_lines(out: &mut [u8], at: usize, lens: &[u32], labels: &[i32]) -> usize
-    ensures { λ r. ⌜ Written·out (now (out .exit)) r ≡ pushes (Written·out (now (out .entry)) at) (Lines·lines 0 (now (lens .entry)) (now (labels .entry))) ⌝ }
+    ensures { λ r. ⌜ Steps·out (now (out .exit)) r ≡ pushes (Steps·out (now (out .entry)) at) (Lines·lines 0 (now (lens .entry)) (now (labels .entry))) ⌝ }
 {
     let mut k = at;
     let mut t = 0;

@@ -5,20 +5,20 @@ use mathlib.Core.List.{List, [], _∷_}
 use Prim.Native.Nat.{ℕ, suc}
 use lib.Dec.{ltb}
 use lib.Ieee.{Float}
-use Rattle.stay.specs.Trace.{Fix, fixes}
-use Rattle.tracks.specs.declared.config.Config.{Config}
-use Rattle.tracks.specs.declared.refusal.Refusal.{Refusal}
-use Rattle.tracks.specs.declared.refusal.Refusal.the-variants.{R1, R2, MinStayingTime, MaxTimeBetween, TimeBounds, MinSize, NoTrace, Lengths, Counts, Work, EmptyTrace, Coordinate, Timestamp, PartlyTimed, TimeOrder, CoordinateSize, TimeMark}
-use Rattle.tracks.specs.declared.refusal.Checked.{Checked}
-use Rattle.tracks.specs.declared.refusal.Checked.the-variants.{Accepted, Refused}
-use Rattle.tracks.specs.Refusals.{numberOf}
-use Rattle.tracks.specs.Checks.{refuseIf, firstOf, inTurn, eachOf, eachFrom}
-use Rattle.tracks.specs.Settings.{checkConfig, checkTimeBounds}
-use Rattle.tracks.specs.Traces.{checkFix, checkTimes, checkTrace, checkFixSize, checkSize}
-use Rattle.tracks.specs.Tracks.{traces, checkLengths, checkCounts, checkWork, checkMark, checkContents, checkTracks}
+use Rattle.trace.specs.Trace.{Fix, fixes, traces}
+use Rattle.settings.specs.declared.config.Config.{Config}
+use Rattle.settings.specs.declared.refusal.Refusal.{Refusal}
+use Rattle.settings.specs.declared.refusal.Refusal.the-variants.{R1, R2, MinStayingTime, MaxTimeBetween, TimeBounds, MinSize, NoTrace, Lengths, Counts, Work, EmptyTrace, Coordinate, Timestamp, PartlyTimed, TimeOrder, CoordinateSize, TimeMark}
+use Rattle.settings.specs.declared.refusal.Checked.{Checked}
+use Rattle.settings.specs.declared.refusal.Checked.the-variants.{Accepted, Refused}
+use Rattle.settings.specs.Refusals.{numberOf}
+use Rattle.settings.specs.Checks.{refuseIf, firstOf, inTurn, eachOf, eachFrom}
+use Rattle.settings.specs.Settings.{checkConfig, checkTimeBounds}
+use Rattle.checks.specs.Traces.{checkFix, checkTimes, checkTrace, checkFixSize, checkSize}
+use Rattle.checks.specs.Tracks.{checkLengths, checkCounts, checkWork, checkMark, checkContents, checkTracks}
 use Rattle.records.specs.declared.FixRecord.{FixRecord}
 use Rattle.records.specs.Records.{xsOf, ysOf, timesOf, marksOf}
-use Rattle.records.specs.Judge.{checkRecords}
+use Rattle.records.specs.StepsJudge.{checkRecords}
 
 -- A refusal, if there is one, is below 18.
 abbrev pub low : Checked → Bool
@@ -70,7 +70,8 @@ low-config c =
     low-turn _ _ (low-if _ R1 refl)
     (low-turn _ _ (low-if _ R2 refl)
     (low-turn _ _
-    (low-turn _ _ (low-if _ MinStayingTime refl) (low-turn _ _ (low-if _ MaxTimeBetween refl) (low-turn _ _ (low-if _ TimeBounds refl) (low-turn _ _ (low-if _ MinSize refl) low-none))))
+    (low-turn _ _ (low-if _ MinStayingTime refl) (low-turn _ _ (low-if _ MaxTimeBetween refl) (low-turn _ _ (low-if _ TimeBounds refl)
+    (low-turn _ _ (low-if _ MinSize refl) low-none))))
     low-none))
 
 low-tracks : (xs ys ts : List Float) (ms lens : List ℕ) (labels cap floats words : ℕ) → low (checkTracks xs ys ts ms lens labels cap floats words) ≡ true
@@ -81,9 +82,12 @@ low-tracks xs ys ts ms lens labels cap floats words =
     (low-turn _ _ (low-if _ Work refl)
     (low-turn _ _
     (low-turn _ _ (low-each _ (λ m. low-if _ TimeMark refl) ms)
-    (low-turn _ _ (low-from checkTrace low-trace 0 (traces lens (fixes xs ys ts ms))) (low-turn _ _ (low-from checkSize low-size 0 (traces lens (fixes xs ys ts ms))) low-none)))
+    (low-turn _ _ (low-from checkTrace low-trace 0 (traces lens (fixes xs ys ts ms)))
+    (low-turn _ _ (low-from checkSize low-size 0 (traces lens (fixes xs ys ts ms))) low-none)))
     low-none)))
 
-pub low-records : (c : Config) (fs : List FixRecord) (lens : List ℕ) (labels cap columns marks floats words : ℕ) → low (checkRecords c fs lens labels cap columns marks floats words) ≡ true
+pub low-records : (c : Config) (fs : List FixRecord) (lens : List ℕ) (labels cap columns marks floats words : ℕ)
+    → low (checkRecords c fs lens labels cap columns marks floats words) ≡ true
 unfolding checkRecords
-low-records c fs lens labels cap columns marks floats words = low-first _ _ (low-config c) (low-tracks (xsOf fs) (ysOf fs) (timesOf fs) (marksOf fs) lens labels cap _ words)
+low-records c fs lens labels cap columns marks floats words =
+    low-first _ _ (low-config c) (low-tracks (xsOf fs) (ysOf fs) (timesOf fs) (marksOf fs) lens labels cap _ words)

@@ -1,8 +1,8 @@
 -- The records taken apart: what all steps come to, and what the slices then hold.
 use mathlib.Core.Path.{_≡_, refl, sym, ap, ap₂, _∙_, subst}
-use mathlib.Core.List.{List, [], _∷_, _++_, map}
+use mathlib.Core.List.{List, _++_, map}
 use Prim.Native.Nat.{ℕ, zero, suc, _+_, _*_, _<_, _≤_}
-use native.Mathlib.Nat.{not-suc-le-zero, le-of-suc-le-suc, zero-add}
+use native.Mathlib.Nat.{not-suc-le-zero, zero-add}
 use native.Mathlib.Numerals.{add-one}
 use native.Mathlib.Omega.{arith}
 use lib.ListN.{length, getD, set, take, drop, length-append, length-drop, length-map, length-set}
@@ -10,10 +10,11 @@ use lib.Seq.{ext-getD, getD-set-same, getD-set-other, getD-take, getD-drop, leng
 use lib.Ieee.{Float, nan}
 use borrow.Author.Count.{below-more}
 use borrow.Author.Tests.{le-ltb, le-leb, lt-leb}
+use Rattle.lists.proofs.Maps.{getD-map}
 use Rattle.lists.specs.Lists.{overlay}
 use Rattle.lists.proofs.Overlay.{take-overlay, overlay-front}
-use Rattle.tracks.specs.Columns.{readTime}
-use Rattle.infostop.proofs.Slices.{take-drop-take}
+use Rattle.trace.specs.Trace.{readTime}
+use Rattle.lists.proofs.Parts.{take-drop-take}
 use Rattle.records.specs.declared.FixRecord.{FixRecord}
 use Rattle.records.specs.Records.{xsOf, ysOf, timesOf, marksOf}
 use Rattle.records.specs.Steps.{noRecord, putAt, setMark, markAt, steps}
@@ -31,19 +32,15 @@ row-length : (fs : List FixRecord) → length (inRow fs) ≡ 3 * length fs
 row-length fs = simp (length-append, length-map) (omega arith)
 
 -- A part of a list that has at each place what f makes of the record there.
-module _ {A : Type 0} (d : A) (fs : List FixRecord) (f : FixRecord → A) (l : List A) (p : ℕ) (room : p + length fs ≤ length l) (each : (k : ℕ) → k < length fs → getD l (p + k) d ≡ f (getD fs k noRecord)) where
+module _ {A : Type 0} (d : A) (fs : List FixRecord) (f : FixRecord → A) (l : List A) (p : ℕ) (room : p + length fs ≤ length l)
+    (each : (k : ℕ) → k < length fs → getD l (p + k) d ≡ f (getD fs k noRecord)) where
   size : length (take (length fs) (drop p l)) ≡ length fs
   size = let i = length-drop p l in length-take-le (length fs) (drop p l) (omega arith)
-
-  mapped : (gs : List FixRecord) (i : ℕ) → i < length gs → getD (map f gs) i d ≡ f (getD gs i noRecord)
-  mapped [] i h = absurd (not-suc-le-zero h)
-  mapped (g ∷ gs) zero h = refl
-  mapped (g ∷ gs) (suc i) h = mapped gs i (le-of-suc-le-suc h)
 
   pub part-is : take (length fs) (drop p l) ≡ map f fs
   part-is =
       ext-getD d (take (length fs) (drop p l)) (map f fs) (size ∙ sym (length-map fs f)) (λ i h. let g : i < length fs = omega (arith, size, h) in
-      getD-take (length fs) (drop p l) i d g ∙ getD-drop p l i d ∙ each i g ∙ sym (mapped fs i g))
+      getD-take (length fs) (drop p l) i d g ∙ getD-drop p l i d ∙ each i g ∙ sym (getD-map f fs i noRecord d g))
 
 -- ---- the columns after the first j records of n
 pub record Filled (n j : ℕ) (fs : List FixRecord) (old l : List Float) : Type 0 where
@@ -69,7 +66,9 @@ module _ (n : ℕ) (fs : List FixRecord) (old l : List Float) (enough : 3 * n �
     other p a b c = getD-set-other two (2 * n + i) p (timeIn f) nan c ∙ getD-set-other one (n + i) p (f .at .y) nan b ∙ getD-set-other l i p (f .at .x) nan a
 
     at-x : getD (stored n i f l) i nan ≡ f .at .x
-    at-x = getD-set-other two (2 * n + i) i (timeIn f) nan (λ e. omega arith) ∙ getD-set-other one (n + i) i (f .at .y) nan (λ e. omega arith) ∙ getD-set-same l i (f .at .x) nan (omega arith)
+    at-x =
+        getD-set-other two (2 * n + i) i (timeIn f) nan (λ e. omega arith) ∙ getD-set-other one (n + i) i (f .at .y) nan (λ e. omega arith)
+        ∙ getD-set-same l i (f .at .x) nan (omega arith)
 
     at-y : getD (stored n i f l) (n + i) nan ≡ f .at .y
     at-y = getD-set-other two (2 * n + i) (n + i) (timeIn f) nan (λ e. omega arith) ∙ getD-set-same one (n + i) (f .at .y) nan (simp length-set (omega arith))
@@ -78,7 +77,9 @@ module _ (n : ℕ) (fs : List FixRecord) (old l : List Float) (enough : 3 * n �
     at-time = getD-set-same two (2 * n + i) (timeIn f) nan (simp length-set (omega arith))
 
     behind : drop (3 * n) (stored n i f l) ≡ drop (3 * n) l
-    behind = drop-set-lt (3 * n) two (2 * n + i) (timeIn f) (omega arith) ∙ drop-set-lt (3 * n) one (n + i) (f .at .y) (omega arith) ∙ drop-set-lt (3 * n) l i (f .at .x) (omega arith)
+    behind =
+        drop-set-lt (3 * n) two (2 * n + i) (timeIn f) (omega arith) ∙ drop-set-lt (3 * n) one (n + i) (f .at .y) (omega arith)
+        ∙ drop-set-lt (3 * n) l i (f .at .x) (omega arith)
 
   more : (i : ℕ) → i < n → Filled n i fs old l → Filled n (i + 1) fs old (stored n i (getD fs i noRecord) l)
   more i less h =
@@ -129,7 +130,8 @@ module _ (fs : List FixRecord) (l : List Float) where
     in-front =
         ap (λ (k : ℕ). take k end) three
         ∙ take-add n (n + n) end
-        ∙ ap₂ (λ (a b : List Float). a ++ b) (part-is nan fs (λ f. f .at .x) end 0 (omega (arith, same)) (λ k h. ap (λ (p : ℕ). getD end p nan) (zero-add k) ∙ all .xs k h))
+        ∙ ap₂ (λ (a b : List Float). a ++ b) (part-is nan fs (λ f. f .at .x) end 0 (omega (arith, same)) (λ k h. ap (λ (p : ℕ). getD end p nan)
+        (zero-add k) ∙ all .xs k h))
         (take-add n n (drop n end)
         ∙ ap₂ (λ (a b : List Float). a ++ b) (part-is nan fs (λ f. f .at .y) end n (omega (arith, same)) (all .ys))
         (ap (take n) (drop-drop n n end ∙ ap (λ (k : ℕ). drop k end) double) ∙ part-is nan fs timeIn end (2 * n) (omega (arith, same)) (all .times)))
@@ -161,7 +163,11 @@ module _ (fs : List FixRecord) (l : List ℕ) where
     next : (m : List ℕ) → length m ≡ length l → (i : ℕ) → i < n′ → Marked i m → Marked (i + 1) (set m i (getD fs i noRecord .mark))
     next m e i less h =
         let v = getD fs i noRecord .mark in
-        record { front = below-more _ i (λ k g. getD-set-other m i k v 0 (λ q. omega arith) ∙ h .front k g) (getD-set-same m i v 0 (omega arith)); rest = drop-set-lt n′ m i v less ∙ h .rest }
+        record {
+          front = below-more _ i (λ k g. getD-set-other m i k v 0 (λ q. omega arith)
+              ∙ h .front k g) (getD-set-same m i v 0 (omega arith));
+          rest = drop-set-lt n′ m i v less ∙ h .rest;
+        }
 
     marks-filled : (j : ℕ) → j ≤ n′ → Marked j (steps (markAt n′) fs l j)
     unfolding steps
@@ -169,12 +175,15 @@ module _ (fs : List FixRecord) (l : List ℕ) where
     marks-filled (suc i) h =
         let before = steps (markAt n′) fs l i in
         let e : length before ≡ length l = steps-length (markAt n′) fs l (length-mark n′) i in
-        subst (λ (a : List ℕ). Marked (suc i) a) (sym (mark-is before e i (getD fs i noRecord) h)) (subst (λ (j : ℕ). Marked j (set before i (getD fs i noRecord .mark))) (add-one i) (next before e i h (marks-filled i (omega arith))))
+        subst (λ (a : List ℕ). Marked (suc i) a) (sym (mark-is before e i (getD fs i noRecord) h))
+        (subst (λ (j : ℕ). Marked j (set before i (getD fs i noRecord .mark))) (add-one i) (next before e i h (marks-filled i (omega arith))))
 
     pub marks-taken : marks-end ≡ overlay (marksOf fs) l
     marks-taken =
         let a = marks-filled n′ (omega arith) in
-        overlay-front n′ l marks-end (omega (arith, marks-same)) (a .rest) ∙ ap (λ (z : List ℕ). overlay z l) (part-is 0 fs (λ f. f .mark) marks-end 0 (omega (arith, marks-same)) (λ k h. ap (λ (p : ℕ). getD marks-end p 0) (zero-add k) ∙ a .front k h))
+        overlay-front n′ l marks-end (omega (arith, marks-same)) (a .rest)
+        ∙ ap (λ (z : List ℕ). overlay z l) (part-is 0 fs (λ f. f .mark) marks-end 0 (omega (arith, marks-same))
+        (λ k h. ap (λ (p : ℕ). getD marks-end p 0) (zero-add k) ∙ a .front k h))
 
 -- ---- no record is to be taken apart
 pub columns-stay : (fs : List FixRecord) (l : List Float) (i : ℕ) → steps (putAt 0) fs l i ≡ l
@@ -201,12 +210,16 @@ module _ (fs : List FixRecord) (columns : List Float) (enough : 3 * length fs �
   xs-held = part 0 (omega arith) ∙ take-at (xsOf fs) (ysOf fs ++ timesOf fs) (length fs) (length-map fs _)
 
   pub ys-held : take (length fs) (drop (length fs) columns) ≡ ysOf fs
-  ys-held = part (length fs) (omega arith) ∙ ap (take (length fs)) (drop-at (xsOf fs) (ysOf fs ++ timesOf fs) (length fs) (length-map fs _)) ∙ take-at (ysOf fs) (timesOf fs) (length fs) (length-map fs _)
+  ys-held =
+      part (length fs) (omega arith) ∙ ap (take (length fs)) (drop-at (xsOf fs) (ysOf fs ++ timesOf fs) (length fs) (length-map fs _))
+      ∙ take-at (ysOf fs) (timesOf fs) (length fs) (length-map fs _)
 
   pub times-held : take (length fs) (drop (2 * length fs) columns) ≡ timesOf fs
   times-held =
       part (2 * length fs) (omega arith)
-      ∙ ap (take (length fs)) (ap (λ (k : ℕ). drop k (inRow fs)) twice ∙ sym (drop-drop (length fs) (length fs) (inRow fs)) ∙ ap (drop (length fs)) (drop-at (xsOf fs) (ysOf fs ++ timesOf fs) (length fs) (length-map fs _)) ∙ drop-at (ysOf fs) (timesOf fs) (length fs) (length-map fs _))
+      ∙ ap (take (length fs)) (ap (λ (k : ℕ). drop k (inRow fs)) twice ∙ sym (drop-drop (length fs) (length fs) (inRow fs))
+      ∙ ap (drop (length fs)) (drop-at (xsOf fs) (ysOf fs ++ timesOf fs) (length fs) (length-map fs _))
+      ∙ drop-at (ysOf fs) (timesOf fs) (length fs) (length-map fs _))
       ∙ take-all (length fs) (timesOf fs) (omega (arith, length-map fs timeIn))
     where
       twice : 2 * length fs ≡ length fs + length fs

@@ -12,30 +12,29 @@ use lib.Ieee.{Float}
 use Rattle.lists.specs.Lists.{overlay}
 use Rattle.lists.proofs.Tests.{and-left, and-right}
 use Rattle.distance.specs.Distance.{euclidean}
-use Rattle.stay.specs.Trace.{Fix, fixes}
-use Rattle.tracks.specs.declared.config.Config.{Config}
-use Rattle.tracks.specs.declared.refusal.Refusal.{Refusal}
-use Rattle.tracks.specs.declared.refusal.Checked.{Checked}
-use Rattle.tracks.specs.declared.refusal.Checked.the-variants.{Accepted, Refused}
-use Rattle.tracks.specs.Checks.{isRefused, firstOf}
-use Rattle.tracks.specs.Tracks.{traces}
-use Rattle.tracks.proofs.Turns.{first-both}
-use Rattle.tracks.proofs.Accepted.{tracks-accepted}
-use Rattle.fit.specs.Fit.{Outcome, refused, unlessRefused, fit}
+use Rattle.trace.specs.Trace.{Fix, fixes, traces}
+use Rattle.settings.specs.declared.config.Config.{Config}
+use Rattle.settings.specs.declared.refusal.Refusal.{Refusal}
+use Rattle.settings.specs.declared.refusal.Checked.{Checked}
+use Rattle.settings.specs.declared.refusal.Checked.the-variants.{Accepted, Refused}
+use Rattle.settings.specs.Checks.{isRefused, firstOf}
+use Rattle.settings.proofs.Turns.{first-both}
+use Rattle.checks.proofs.Accepted.{tracks-accepted}
+use Rattle.infostop.specs.Fit.{Outcome, refused, unlessRefused, fit}
 use Rattle.infostop.specs.declared.model.Infostop.{Infostop}
 use Rattle.infostop.specs.declared.answer.Answer.the-variants as answer
 use Rattle.infostop.specs.declared.answer.Fit.{Fit}
 use Rattle.infostop.specs.Ends.{toldBy, keepsWork, Promised}
-use Rattle.infostop.proofs.Slices.{lent}
+use Rattle.lists.proofs.Parts.{lent}
 use Rattle.infostop.proofs.Ending.{refused-ends, no-kept}
 use Rattle.infostop.proofs.Promises.{both-accepted, free-work}
 use Rattle.records.specs.declared.FixRecord.{FixRecord}
 use Rattle.records.specs.declared.judge.Judge.{Judge}
 use Rattle.records.specs.declared.packed.Packed.{Packed}
 use Rattle.records.specs.declared.verdict.Verdict.{Verdict}
-use Rattle.records.specs.Records.{fixOf, xsOf, ysOf, timesOf, marksOf, roomFor, workFloats, fitRecords, taken, marked}
-use Rattle.records.specs.Judge.{started, run, packed, unpacked, checksFrom, checkRecords, verdictBy}
-use Rattle.records.specs.Steps.{putAt, markAt, steps, Ready}
+use Rattle.records.specs.Records.{fixOf, xsOf, ysOf, timesOf, marksOf, roomFor, workFloats, fitRecords, taken, marked, outcomeOf, RecordsFitted}
+use Rattle.records.specs.StepsJudge.{started, run, packed, unpacked, checksFrom, checkRecords, verdictBy}
+use Rattle.records.specs.Steps.{putAt, markAt, allPut, Ready, ReadyFitted}
 use Rattle.records.proofs.Steps.{length-put, length-mark, steps-length}
 use Rattle.records.proofs.Columns.{inRow, columns-taken, marks-taken, columns-stay, marks-stay, columns-held, marks-held, xs-held, ys-held, times-held}
 use Rattle.records.proofs.Judged.{fixes-are, checks-told}
@@ -70,7 +69,8 @@ module _ (c : Config) (fs : List FixRecord) (lens : List ℕ) (labels cap column
   keeps-below (Refused e) h = ap keepsWork (outcome-refused e h) ∙ ap low (sym h) ∙ low-records c fs lens labels cap columns marks floats words
   keeps-below Accepted h =
       let both = first-both _ _ h in
-      ap keepsWork (both-accepted c (xsOf fs) (ysOf fs) (timesOf fs) (marksOf fs) lens labels cap (workFloats (length fs) columns marks floats) words (both .0) (both .1))
+      ap keepsWork (both-accepted c (xsOf fs) (ysOf fs) (timesOf fs) (marksOf fs) lens labels cap (workFloats (length fs) columns marks floats) words
+      (both .0) (both .1))
       ∙ free-work euclidean c cap (traces lens (fixes (xsOf fs) (ysOf fs) (timesOf fs) (marksOf fs)))
 
   -- Records that pass have room.
@@ -81,7 +81,8 @@ module _ (c : Config) (fs : List FixRecord) (lens : List ℕ) (labels cap column
       go : (b : Bool) → roomFor (length fs) columns marks ≡ b → b ≡ true
       go true e = refl
       go false e =
-          let w = tracks-accepted (xsOf fs) (ysOf fs) (timesOf fs) (marksOf fs) lens labels cap (cond (roomFor (length fs) columns marks) floats 0) words (first-both _ _ h .1) in
+          let w = tracks-accepted (xsOf fs) (ysOf fs) (timesOf fs) (marksOf fs) lens labels cap (cond (roomFor (length fs) columns marks) floats 0)
+          words (first-both _ _ h .1) in
           let l : 4 * length (xsOf fs) + cap * cap ≤ 0 = rw e at (w .roomy .floats-length) in
           let p = squares (length (xsOf fs)) cap (w .some-place) in
           absurd (omega arith)
@@ -95,13 +96,14 @@ unfolding roomFor
 room-marks n columns marks h = leb-true n marks (and-right (leb (3 * n) columns) (leb n marks) h)
 
 -- ---- what `fit_taken` promises
-module _ (m : Infostop) (fs : List FixRecord) (lens : List ℕ) (old : List ℤ) (cap : ℕ) (columns : List Float) (marks : List ℕ) (floats : List Float) (words : List ℤ) (v : Verdict)
+module _ (m : Infostop) (fs : List FixRecord) (lens : List ℕ) (old : List ℤ) (cap : ℕ) (columns : List Float) (marks : List ℕ) (floats : List Float)
+    (words : List ℤ) (v : Verdict)
     (w : Ready (m .config) fs lens (length old) cap (length floats) (length words) v columns marks) where
   abbrev d : Checked
   d = checkRecords (m .config) fs lens (length old) cap (length columns) (length marks) (length floats) (length words)
 
   abbrev o : Outcome
-  o = fitRecords (m .config) fs lens (length old) cap (length columns) (length marks) (length floats) (length words)
+  o = outcomeOf m fs lens cap old columns marks floats words
 
   abbrev Ends : Fit → List ℤ → List Float → List ℤ → Type 0
   Ends = Promised m old floats words o (traces lens (map fixOf fs))
@@ -120,7 +122,9 @@ module _ (m : Infostop) (fs : List FixRecord) (lens : List ℕ) (old : List ℤ)
   pub promised-refused : (e : Refusal) → v .checked ≡ Refused e → (r : Fit) → r ≡ record { answer = answer.Refused e; model = m } → Ends r old floats words
   promised-refused e h r q =
       rw q record {
-        ended = refused-ends m old o e (outcome-refused (m .config) fs lens (length old) cap (length columns) (length marks) (length floats) (length words) e (sym is-judged ∙ h));
+        ended =
+            refused-ends m old o e (outcome-refused (m .config) fs lens (length old) cap (length columns) (length marks) (length floats)
+            (length words) e (sym is-judged ∙ h));
         work = λ z. (refl, refl);
         demand3 = λ k. λ n. λ z. no-kept _ _ _ _ (sym (ap toldBy z));
       }
@@ -149,7 +153,8 @@ module _ (m : Infostop) (fs : List FixRecord) (lens : List ℕ) (old : List ℤ)
   unfolding fitRecords
   by-columns r labels floats' words' xs ys ts ms room px py pt pm pr p =
       let W = workFloats (length fs) (length columns) (length marks) (length floats) in
-      subst (λ (z : List Fix). Promised m old floats words (fit (m .config) (xsOf fs) (ysOf fs) (timesOf fs) (marksOf fs) lens (length old) cap W (length words)) (traces lens z) r labels floats' words') (fixes-are fs)
+      subst (λ (z : List Fix). Promised m old floats words (fit (m .config) (xsOf fs) (ysOf fs) (timesOf fs) (marksOf fs) lens
+      (length old) cap W (length words)) (traces lens z) r labels floats' words') (fixes-are fs)
       (subst (λ (z : ℕ). Of r labels floats' words' (xsOf fs) (ysOf fs) (timesOf fs) (marksOf fs) z) pr
       (subst (λ (z : List ℕ). Of r labels floats' words' (xsOf fs) (ysOf fs) (timesOf fs) z room) pm
       (subst (λ (z : List Float). Of r labels floats' words' (xsOf fs) (ysOf fs) z ms room) pt
@@ -157,7 +162,8 @@ module _ (m : Infostop) (fs : List FixRecord) (lens : List ℕ) (old : List ℤ)
       (subst (λ (z : List Float). Of r labels floats' words' z ys ts ms room) px p)))))
 
   pub promised-taken : v .checked ≡ Accepted → (r : Fit) (labels : List ℤ) (floats' : List Float) (words' : List ℤ) (n : ℕ) → v .fixes ≡ n
-      → Of r labels floats' words' (lent 0 n columns) (lent n (2 * n) columns) (lent (2 * n) (3 * n) columns) (lent 0 n marks) (length floats) → Ends r labels floats' words'
+      → Of r labels floats' words' (lent 0 n columns) (lent n (2 * n) columns) (lent (2 * n) (3 * n) columns) (lent 0 n marks) (length floats)
+      → Ends r labels floats' words'
   unfolding workFloats
   promised-taken h r labels floats' words' n i p =
       let is : length fs ≡ n = sym (all-fixes h) ∙ i in
@@ -176,25 +182,32 @@ module _ (m : Infostop) (fs : List FixRecord) (lens : List ℕ) (old : List ℤ)
       p
 
 -- ---- how all ends
-module _ (m : Infostop) (fs : List FixRecord) (lens : List ℕ) (old : List ℤ) (cap : ℕ) (columns : List Float) (marks : List ℕ) (floats : List Float) (words : List ℤ) where
+module _ (m : Infostop) (fs : List FixRecord) (lens : List ℕ) (old : List ℤ) (cap : ℕ) (columns : List Float) (marks : List ℕ) (floats : List Float)
+    (words : List ℤ) where
   abbrev d₁ : Checked
   d₁ = checkRecords (m .config) fs lens (length old) cap (length columns) (length marks) (length floats) (length words)
 
   abbrev o₁ : Outcome
-  o₁ = fitRecords (m .config) fs lens (length old) cap (length columns) (length marks) (length floats) (length words)
+  o₁ = outcomeOf m fs lens cap old columns marks floats words
+
+  -- The verdict by what the machine says.
+  abbrev verdict-of : Judge → Verdict
+  verdict-of s = verdictBy (checksFrom (m .config) s (length fs) lens (length old) cap (length columns) (length marks) (length floats) (length words)) (length fs)
 
   -- The verdict that the code reaches, and the slices after it.
   abbrev v₁ : Verdict
-  v₁ = verdictBy (checksFrom (m .config) (run lens (started lens) fs) (length fs) lens (length old) cap (length columns) (length marks) (length floats) (length words)) (length fs)
+  v₁ = verdict-of (run lens (started lens) fs)
 
   abbrev columns₁ : List Float
-  columns₁ = steps (putAt (v₁ .fixes)) fs columns (length fs)
+  columns₁ = allPut (putAt (v₁ .fixes)) fs columns
 
   abbrev marks₁ : List ℕ
-  marks₁ = steps (markAt (v₁ .fixes)) fs marks (length fs)
+  marks₁ = allPut (markAt (v₁ .fixes)) fs marks
 
   verdict-is : v₁ ≡ verdictBy d₁ (length fs)
-  verdict-is = ap (λ (z : Checked). verdictBy z (length fs)) (checks-told (m .config) fs lens (length old) cap (length columns) (length marks) (length floats) (length words))
+  verdict-is =
+      ap (λ (z : Checked). verdictBy z (length fs)) (checks-told (m .config) fs lens (length old) cap (length columns) (length marks) (length floats)
+      (length words))
 
   count-is : (z : Checked) → d₁ ≡ z → v₁ .fixes ≡ cond (isRefused z) 0 (length fs)
   count-is z h = ap (λ (u : Verdict). u .fixes) verdict-is ∙ (unfold verdictBy in ap (λ (u : Checked). cond (isRefused u) 0 (length fs)) h)
@@ -210,18 +223,20 @@ module _ (m : Infostop) (fs : List FixRecord) (lens : List ℕ) (old : List ℤ)
     room = has-room (m .config) fs lens (length old) cap (length columns) (length marks) (length floats) (length words) h
 
     columns-all : columns₁ ≡ overlay (inRow fs) columns
-    columns-all = ap (λ (k : ℕ). steps (putAt k) fs columns (length fs)) (count-is Accepted h) ∙ columns-taken fs columns (room-columns (length fs) (length columns) (length marks) room)
+    columns-all =
+        ap (λ (k : ℕ). allPut (putAt k) fs columns) (count-is Accepted h)
+        ∙ columns-taken fs columns (room-columns (length fs) (length columns) (length marks) room)
 
     marks-all : marks₁ ≡ overlay (marksOf fs) marks
-    marks-all = ap (λ (k : ℕ). steps (markAt k) fs marks (length fs)) (count-is Accepted h) ∙ marks-taken fs marks (room-marks (length fs) (length columns) (length marks) room)
+    marks-all = ap (λ (k : ℕ). allPut (markAt k) fs marks) (count-is Accepted h) ∙ marks-taken fs marks (room-marks (length fs) (length columns) (length marks) room)
 
   columns-end : (z : Checked) → d₁ ≡ z → columns₁ ≡ cond (isRefused z) columns (overlay (inRow fs) columns)
   columns-end Accepted h = columns-all h
-  columns-end (Refused e) h = ap (λ (k : ℕ). steps (putAt k) fs columns (length fs)) (count-is (Refused e) h) ∙ columns-stay fs columns (length fs)
+  columns-end (Refused e) h = ap (λ (k : ℕ). allPut (putAt k) fs columns) (count-is (Refused e) h) ∙ columns-stay fs columns (length fs)
 
   marks-end : (z : Checked) → d₁ ≡ z → marks₁ ≡ cond (isRefused z) marks (overlay (marksOf fs) marks)
   marks-end Accepted h = marks-all h
-  marks-end (Refused e) h = ap (λ (k : ℕ). steps (markAt k) fs marks (length fs)) (count-is (Refused e) h) ∙ marks-stay fs marks (length fs)
+  marks-end (Refused e) h = ap (λ (k : ℕ). allPut (markAt k) fs marks) (count-is (Refused e) h) ∙ marks-stay fs marks (length fs)
 
   keeps : keepsWork o₁ ≡ isRefused d₁
   keeps = keeps-below (m .config) fs lens (length old) cap (length columns) (length marks) (length floats) (length words) d₁ refl
@@ -246,28 +261,33 @@ module _ (m : Infostop) (fs : List FixRecord) (lens : List ℕ) (old : List ℤ)
 
   -- From what `fit_taken` promises of the records.
   pub of-records : (r : Fit) (labels : List ℤ) (floats' : List Float) (words' : List ℤ)
-      → ((gs : List FixRecord) → Ready (m .config) gs lens (length old) cap (length floats) (length words) v₁ columns₁ marks₁
-      → Promised m old floats words (fitRecords (m .config) gs lens (length old) cap (length columns₁) (length marks₁) (length floats) (length words)) (traces lens (map fixOf gs)) r labels floats' words')
+      → ReadyFitted m v₁ lens cap old columns₁ marks₁ floats words r labels floats' words'
       → Promised m old floats words o₁ (traces lens (map fixOf fs)) r labels floats' words'
-  of-records r labels floats' words' p =
-      subst (λ (k : ℕ). Promised m old floats words (fitRecords (m .config) fs lens (length old) cap k (length marks) (length floats) (length words)) (traces lens (map fixOf fs)) r labels floats' words') columns-length
-      (subst (λ (k : ℕ). Promised m old floats words (fitRecords (m .config) fs lens (length old) cap (length columns₁) k (length floats) (length words)) (traces lens (map fixOf fs)) r labels floats' words') marks-length (p fs is-ready))
+  of-records r labels floats' words' p = subst (λ (k : ℕ). promised k (length marks)) columns-length
+      (subst (λ (k : ℕ). promised (length columns₁) k) marks-length (p fs is-ready))
+    where
+      -- The promise where columns and marks have these lengths.
+      promised : ℕ → ℕ → Type 0
+      promised j k =
+          Promised m old floats words (fitRecords (m .config) fs lens (length old) cap j k (length floats) (length words))
+          (traces lens (map fixOf fs)) r labels floats' words'
 
   -- All, from what the steps of `fit_records` hand back: the machine p, the verdict v, the number k of records to take.
   abbrev Holds : Verdict → ℕ → Fit → List ℤ → List Float → List ℤ → Type 0
-  Holds v k r labels floats' words' = (gs : List FixRecord) → Ready (m .config) gs lens (length old) cap (length floats) (length words) v (steps (putAt k) fs columns (length fs)) (steps (markAt k) fs marks (length fs))
-      → Promised m old floats words (fitRecords (m .config) gs lens (length old) cap (length (steps (putAt k) fs columns (length fs))) (length (steps (markAt k) fs marks (length fs))) (length floats) (length words)) (traces lens (map fixOf gs)) r labels floats' words'
+  Holds v k r labels floats' words' =
+      ReadyFitted m v lens cap old (allPut (putAt k) fs columns) (allPut (markAt k) fs marks) floats words r labels floats' words'
 
   pub all-end : (p : Packed) (v : Verdict) (k : ℕ) → p ≡ packed (run lens (started lens) fs)
-      → v ≡ verdictBy (checksFrom (m .config) (unpacked p) (length fs) lens (length old) cap (length columns) (length marks) (length floats) (length words)) (length fs) → k ≡ v .fixes
+      → v ≡ verdict-of (unpacked p) → k ≡ v .fixes
       → (r : Fit) (labels : List ℤ) (floats' : List Float) (words' : List ℤ) (columns' : List Float) (marks' : List ℕ)
-      → columns' ≡ steps (putAt k) fs columns (length fs) → marks' ≡ steps (markAt k) fs marks (length fs) → Holds v k r labels floats' words'
-      → Promised m old floats words o₁ (traces lens (map fixOf fs)) r labels floats' words' × (columns' ≡ taken o₁ fs columns) × (marks' ≡ marked o₁ fs marks)
+      → columns' ≡ allPut (putAt k) fs columns → marks' ≡ allPut (markAt k) fs marks → Holds v k r labels floats' words'
+      → RecordsFitted m fs lens cap old columns marks floats words r labels columns' marks' floats' words'
   all-end p v k ep ev ek r labels floats' words' columns' marks' ec em h =
       let v-is : v ≡ v₁ =
-      ev ∙ ap (λ (s : Judge). verdictBy (checksFrom (m .config) s (length fs) lens (length old) cap (length columns) (length marks) (length floats) (length words)) (length fs)) (ap unpacked ep ∙ unpacked-all lens fs) in
+      ev ∙ ap verdict-of (ap unpacked ep ∙ unpacked-all lens fs) in
       let k-is : k ≡ v₁ .fixes = ek ∙ ap (λ (u : Verdict). u .fixes) v-is in (
-        of-records r labels floats' words' (subst (λ (u : Verdict). Holds u (v₁ .fixes) r labels floats' words') v-is (subst (λ (j : ℕ). Holds v j r labels floats' words') k-is h)),
-        ec ∙ ap (λ (j : ℕ). steps (putAt j) fs columns (length fs)) k-is ∙ columns-are,
-        em ∙ ap (λ (j : ℕ). steps (markAt j) fs marks (length fs)) k-is ∙ marks-are,
+        of-records r labels floats' words' (subst (λ (u : Verdict). Holds u (v₁ .fixes) r labels floats' words') v-is
+            (subst (λ (j : ℕ). Holds v j r labels floats' words') k-is h)),
+        ec ∙ ap (λ (j : ℕ). allPut (putAt j) fs columns) k-is ∙ columns-are,
+        em ∙ ap (λ (j : ℕ). allPut (markAt j) fs marks) k-is ∙ marks-are,
       )

@@ -52,16 +52,21 @@ module _ {M : Type 1} {𝓤 : URA M} {H : Heap 𝓤} {A : Atoms 𝓤} {K : Type 
       move t (2 ∷ 0 ∷ []) $ fjoin t $ pureI t (at-slice R (slice R b o δ ys) (sliceVal (b, o) j ∷ [])) (tt, (tt, tt)) p $ fjoin t $
       move t (4 ∷ 5 ∷ []) $ fjoin t $ move t (4 ∷ 0 ∷ []) $ fjoin t $ move t (2 ∷ 0 ∷ []) $ fjoin t $ move t (1 ∷ 2 ∷ []) $ k ν δ)))
 
-  pub back : K → Soaks G → (R : RattleType) (b o : ℕ) (ℓ : Lifetime) {κ : Lft} {q : Share} {γ : GName} {ν : ℕ} {δ : GName} (ys zs : List (R .Denot)) (j : ℕ) → Room R j → length ys ≡ j → length zs ≡ length ys
+  pub back : K → Soaks G → (R : RattleType) (b o : ℕ) (ℓ : Lifetime) {κ : Lft} {q : Share} {γ : GName} {ν : ℕ} {δ : GName} (ys zs : List (R .Denot))
+      (j : ℕ) → Room R j → length ys ≡ j → length zs ≡ length ys
       → Step K W (‵ (Own R b o ℓ κ γ zs j) ∷ ‵ (flft κ q) ∷ Γ) G (‵ (flft (ν ∷ []) fullShare) ∷ ‵ (Waits R b o κ q γ ν δ ys) ∷ ‵ (finally R δ zs) ∷ Γ) G
   back t z R b o ℓ {κ} {q} {γ} {ν} {δ} ys zs j room e same = step (λ s.
-      lft-end t z $ move t (1 ∷ []) $ fsplit t $ move t (2 ∷ 0 ∷ []) $ lent-back t z $ fpick t (λ hs. fsplit t $ move t (3 ∷ []) $ fpick t (λ last. fsplit t $ move t (0 ∷ 3 ∷ []) $
+      lft-end t z $ move t (1 ∷ []) $ fsplit t $ move t (2 ∷ 0 ∷ []) $ lent-back t z $ fpick t (λ hs. fsplit t $ move t (3 ∷ []) $
+      fpick t (λ last. fsplit t $ move t (0 ∷ 3 ∷ []) $
       -- [the last value under δ; auth δ; how it fills up to zs; the cells; the open borrow]
       res-agree t (codedHoleys R) (λ is. drop t $ drop t $ rewrite t 0 (λ (us : Holeys R). ‵ (fillsL (mem R) us zs)) is refl $
       use2 W (‵ (Arr (Holey (mem R)) (length ys) .lies (heres R zs) b o)) (settle 𝓤 H A W (mem R) (length ys) hs zs b o) $
       move t (1 ∷ []) $ fsplit3 t $ move t (3 ∷ []) $ close-ref t z (Arr (Holey (mem R)) (length ys)) (heres R zs) {b = b} {o = o} $
       rewrite t 1 (λ (m : ℕ). ‵ (fbor κ (Held R m b o γ))) (sym same) refl $ fjoin t $
-      pureI t (at-slice R (slice R b o γ zs) (sliceVal (b, o) j ∷ [])) (tt, (tt, tt)) (ap (λ (m : ℕ). sliceVal (b, o) m ∷ []) count, subst (Room R) count room) $ fjoin t $ s))))
+      pureI t (at-slice R (slice R b o γ zs) (sliceVal (b, o) j ∷ [])) (tt, (tt, tt)) (
+        ap (λ (m : ℕ). sliceVal (b, o) m ∷ []) count,
+        subst (Room R) count room,
+      ) $ fjoin t $ s))))
     where
       count : j ≡ length zs
       count = sym e ∙ sym same

@@ -2,25 +2,25 @@
 use mathlib.Core.Path.{_≡_, refl, sym, ap, ap₂, _∙_}
 use mathlib.Core.Bool.{Bool, true, false, cond}
 use mathlib.Core.List.{List, [], _∷_}
-use Prim.Native.Nat.{ℕ, zero, suc, _+_, _-_, _<_}
+use Prim.Native.Nat.{ℕ, zero, suc, _+_, _<_}
 use native.Mathlib.Numerals.{add-one}
 use native.Mathlib.Omega.{arith}
 use lib.Dec.{eqb, ltb}
 use lib.ListN.{length, take, getD}
 use lib.Seq.{take-all}
-use Rattle.stay.specs.Trace.{Fix}
-use Rattle.tracks.specs.declared.refusal.Refusal.{Refusal}
-use Rattle.tracks.specs.declared.refusal.Refusal.the-variants.{EmptyTrace, Coordinate, Timestamp, PartlyTimed, TimeOrder, CoordinateSize}
-use Rattle.tracks.specs.declared.refusal.Checked.{Checked}
-use Rattle.tracks.specs.declared.refusal.Checked.the-variants.{Accepted, Refused}
-use Rattle.tracks.specs.Checks.{refuseIf, firstOf, inTurn}
-use Rattle.tracks.specs.Traces.{checkFix, checkFixSize}
+use Rattle.trace.specs.Trace.{Fix}
+use Rattle.settings.specs.declared.refusal.Refusal.{Refusal}
+use Rattle.settings.specs.declared.refusal.Refusal.the-variants.{EmptyTrace, Coordinate, Timestamp, PartlyTimed, TimeOrder, CoordinateSize}
+use Rattle.settings.specs.declared.refusal.Checked.{Checked}
+use Rattle.settings.specs.declared.refusal.Checked.the-variants.{Accepted, Refused}
+use Rattle.settings.specs.Checks.{refuseIf, firstOf, inTurn}
+use Rattle.checks.specs.Traces.{checkFix, checkFixSize}
 use Rattle.records.specs.declared.FixRecord.{FixRecord}
 use Rattle.records.specs.declared.judge.Times.{Times}
 use Rattle.records.specs.declared.judge.Judge.{Judge}
 use Rattle.records.specs.declared.packed.Packed.{Packed}
 use Rattle.records.specs.Records.{fixOf}
-use Rattle.records.specs.Judge.{timesChecked, begun, passed, ended, next, blank, started, stepped, run, numberIn, traceIn, checkedOf, packed, unpacked}
+use Rattle.records.specs.StepsJudge.{timesChecked, begun, passed, ended, next, blank, started, stepped, run, numberIn, traceIn, checkedOf, packed, unpacked}
 use Rattle.records.specs.Steps.{noRecord}
 
 -- A check's answer that number and trace tell.
@@ -116,11 +116,13 @@ module _ (lens : List ℕ) where
   unfolding run
   after-none fs e = e
 
-  pub after-more : (fs : List FixRecord) (i : ℕ) {p r : Packed} → i < length fs → p ≡ after fs i → r ≡ packed (stepped lens (unpacked p) (getD fs i noRecord)) → r ≡ after fs (i + 1)
+  pub after-more : (fs : List FixRecord) (i : ℕ) {p r : Packed} → i < length fs → p ≡ after fs i
+      → r ≡ packed (stepped lens (unpacked p) (getD fs i noRecord)) → r ≡ after fs (i + 1)
   after-more fs i h e q =
       q
       ∙ ap (λ (z : Packed). packed (stepped lens (unpacked z) (getD fs i noRecord))) e
-      ∙ ap (λ (z : Judge). packed (stepped lens z (getD fs i noRecord))) (back (run lens (started lens) (take i fs)) (told-run (take i fs) (started lens) told-start))
+      ∙ ap (λ (z : Judge). packed (stepped lens z (getD fs i noRecord))) (back (run lens (started lens) (take i fs))
+      (told-run (take i fs) (started lens) told-start))
       ∙ ap packed (run-more fs (started lens) i h)
       ∙ ap (after fs) (sym (add-one i))
 

@@ -9,7 +9,7 @@ use borrow.Author.Tests.{le-leb, lt-leb}
 use lib.Dec.{ltb, leb}
 use lib.ListN.{length, getD, set, length-set}
 use lib.Ieee.{Float}
-use Rattle.tracks.specs.Columns.{readTime}
+use Rattle.trace.specs.Trace.{readTime}
 use Rattle.records.specs.declared.FixRecord.{FixRecord}
 use Rattle.records.specs.Records.{roomFor}
 use Rattle.records.specs.Steps.{noRecord, putAt, setMark, markAt, steps}

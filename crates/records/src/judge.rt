@@ -1,13 +1,13 @@
 // The checks of records before anything is written: a machine that takes them one by one, and what it says of them at the end, in the rules' order.
 use crate::FixRecord;
-use tracks::refusal::Checked;
-use tracks::refusal::Refusal;
+use settings::refusal::Checked;
+use settings::refusal::Refusal;
 ghost use mathlib.Core.Path.{_≡_};
 ghost use mathlib.Core.Bool.{_&&_};
 ghost use Prim.Native.Nat.{_-_};
-ghost use Rattle.tracks.specs.Checks.{refuseIf, firstOf};
-ghost use Rattle.tracks.specs.Columns.{readTime};
-ghost use Rattle.records.specs.Judge.{noTimes as Judge·noTimes, withTime, timesChecked, begun, passed, ended, next as Judge·next, started, stepped, contents as Judge·contents};
+ghost use Rattle.settings.specs.Checks.{refuseIf, firstOf};
+ghost use Rattle.trace.specs.Trace.{readTime};
+ghost use Rattle.records.specs.StepsJudge.{noTimes as Judge·noTimes, withTime, timesChecked, begun, passed, ended, next as Judge·next, started, stepped, contents as Judge·contents};
 
 // The times of the open trace so far: whether all are there, none is, and each is at most the next; the last mark and time.
 pub struct Times {
@@ -52,7 +52,7 @@ fn refuse_if(b: bool, e: Refusal) -> Checked
 fn first_of(a: Checked, b: Checked) -> Checked
     ensures { λ r. ⌜ r ≡ firstOf a b ⌝ }
 {
-    if tracks::refusal::is_refused(a) {
+    if settings::refusal::is_refused(a) {
         return a;
     }
     b
@@ -98,7 +98,7 @@ fn with_time(t: Times, f: FixRecord) -> Times
         untimed: both(t.untimed, f.mark != 1),
         ordered: both(
             t.ordered,
-            !tracks::fix::above(t.mark, t.time, f.mark, f.time),
+            !checks::fix::above(t.mark, t.time, f.mark, f.time),
         ),
         mark: f.mark,
         time: read_time(f.mark, f.time),
@@ -142,7 +142,7 @@ fn pass(s: Judge, f: FixRecord) -> Judge
     let k = s.trace;
     Judge {
         marks: both(s.marks, f.mark <= 1),
-        first: first_of(first, tracks::fix::check_fix(k, p, f.mark, f.time)),
+        first: first_of(first, checks::fix::check_fix(k, p, f.mark, f.time)),
         far: first_of(
             far,
             refuse_if(!distance::in_limit(p), Refusal::CoordinateSize(k)),

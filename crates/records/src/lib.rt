@@ -6,17 +6,13 @@ use distance::Point;
 use infostop::answer::Answer;
 use infostop::answer::Fit;
 use infostop::model::Infostop;
-use tracks::refusal::Checked;
-use tracks::refusal::Refusal;
+use settings::refusal::Checked;
+use settings::refusal::Refusal;
 ghost use mathlib.Core.Path.{_≡_};
-ghost use mathlib.Core.List.{List, map};
-ghost use lib.ListN.{length};
-ghost use Rattle.tracks.specs.Tracks.{traces};
 ghost use Rattle.infostop.specs.declared.answer.Answer.the-variants as answer;
-ghost use Rattle.infostop.specs.Ends.{Promised};
-ghost use Rattle.records.specs.Records.{fixOf, taken, marked, fitRecords};
-ghost use Rattle.records.specs.Judge.{started, run, packed};
-ghost use Rattle.records.specs.Steps.{putAt, setMark, markAt, steps, Ready};
+ghost use Rattle.records.specs.Records.{RecordsFitted};
+ghost use Rattle.records.specs.StepsJudge.{started, run, packed};
+ghost use Rattle.records.specs.Steps.{putAt, setMark, markAt, allPut, ReadyFitted};
 
 pub mod judge;
 pub mod packed;
@@ -81,7 +77,8 @@ fn judge_records(fixes: &[FixRecord], lens: &[u32]) -> Packed
 
 // All records into the columns and the marks, where n is their number; with n = 0 nothing is written.
 fn take_apart(fixes: &[FixRecord], n: usize, columns: &mut [f64], marks: &mut [u8])
-    ensures { λ _. ⌜ (now (columns .exit) ≡ steps (putAt n) (now (fixes .entry)) (now (columns .entry)) (length (now (fixes .entry)))) × (now (marks .exit) ≡ steps (markAt n) (now (fixes .entry)) (now (marks .entry)) (length (now (fixes .entry)))) ⌝ }
+    ensures { λ _. ⌜ (now (columns .exit) ≡ allPut (putAt n) (now (fixes .entry)) (now (columns .entry)))
+        × (now (marks .exit) ≡ allPut (markAt n) (now (fixes .entry)) (now (marks .entry))) ⌝ }
 {
     let count = fixes.len();
     let mut i: usize = 0;
@@ -113,10 +110,8 @@ fn fit_taken(
     words: &mut [i32],
 ) -> Fit
     ensures { λ r. ⌜ (now (columns .exit) ≡ now (columns .entry)) × (now (marks .exit) ≡ now (marks .entry))
-        × ((fs : List FixRecord) → Ready (model .config) fs (now (lens .entry)) (length (now (labels .entry))) places (length (now (floats .entry))) (length (now (words .entry))) v (now (columns .entry)) (now (marks .entry))
-        → Promised model (now (labels .entry)) (now (floats .entry)) (now (words .entry))
-        (fitRecords (model .config) fs (now (lens .entry)) (length (now (labels .entry))) places (length (now (columns .entry))) (length (now (marks .entry))) (length (now (floats .entry))) (length (now (words .entry))))
-        (traces (now (lens .entry)) (map fixOf fs)) r (now (labels .exit)) (now (floats .exit)) (now (words .exit))) ⌝ }
+        × ReadyFitted model v (now (lens .entry)) places (now (labels .entry)) (now (columns .entry)) (now (marks .entry)) (now (floats .entry)) (now (words .entry))
+        r (now (labels .exit)) (now (floats .exit)) (now (words .exit)) ⌝ }
 {
     let checked = v.checked;
     if let Checked::Refused(e) = checked {
@@ -157,9 +152,9 @@ pub fn fit_records(
     floats: &mut [f64],
     words: &mut [i32],
 ) -> Fit
-    ensures { λ r. ⌜ (let o = fitRecords (model .config) (now (fixes .entry)) (now (lens .entry)) (length (now (labels .entry))) places (length (now (columns .entry))) (length (now (marks .entry))) (length (now (floats .entry))) (length (now (words .entry))) in
-        Promised model (now (labels .entry)) (now (floats .entry)) (now (words .entry)) o (traces (now (lens .entry)) (map fixOf (now (fixes .entry)))) r (now (labels .exit)) (now (floats .exit)) (now (words .exit))
-        × (now (columns .exit) ≡ taken o (now (fixes .entry)) (now (columns .entry))) × (now (marks .exit) ≡ marked o (now (fixes .entry)) (now (marks .entry)))) ⌝ }
+    ensures { λ r. ⌜ RecordsFitted model (now (fixes .entry)) (now (lens .entry)) places
+        (now (labels .entry)) (now (columns .entry)) (now (marks .entry)) (now (floats .entry)) (now (words .entry))
+        r (now (labels .exit)) (now (columns .exit)) (now (marks .exit)) (now (floats .exit)) (now (words .exit)) ⌝ }
 {
     let p = judge_records(fixes, lens);
     let v = verdict::decide(

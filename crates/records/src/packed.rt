@@ -2,10 +2,10 @@
 use crate::FixRecord;
 use crate::judge::Judge;
 use crate::judge::Times;
-use tracks::refusal::Checked;
-use tracks::refusal::Refusal;
+use settings::refusal::Checked;
+use settings::refusal::Refusal;
 ghost use mathlib.Core.Path.{_≡_};
-ghost use Rattle.records.specs.Judge.{started, stepped, numberIn, traceIn, checkedOf, packed, unpacked};
+ghost use Rattle.records.specs.StepsJudge.{started, stepped, numberIn, traceIn, checkedOf, packed, unpacked};
 
 // What `Judge` holds, a refusal by its number and its trace, 0 where there is none.
 pub struct Packed {
@@ -25,7 +25,7 @@ fn number_in(c: Checked) -> u32
 {
     match c {
         Checked::Accepted => 0,
-        Checked::Refused(e) => tracks::refusal::number(e),
+        Checked::Refused(e) => settings::refusal::number(e),
     }
 }
 
@@ -34,7 +34,7 @@ fn trace_in(c: Checked) -> usize
 {
     match c {
         Checked::Accepted => 0,
-        Checked::Refused(e) => tracks::refusal::trace(e),
+        Checked::Refused(e) => settings::refusal::trace(e),
     }
 }
 

@@ -2,10 +2,10 @@
 use crate::judge::Judge;
 use crate::packed::Packed;
 use infostop::model::Infostop;
-use tracks::refusal::Checked;
+use settings::refusal::Checked;
 ghost use mathlib.Core.Path.{_≡_};
 ghost use Rattle.records.specs.Records.{workFloats};
-ghost use Rattle.records.specs.Judge.{unpacked, checksFrom, verdictBy};
+ghost use Rattle.records.specs.StepsJudge.{unpacked, checksFrom, verdictBy};
 
 // The first refusal of 1 to 17, and how many records are to be taken apart, none where there is one.
 pub struct Verdict {
@@ -42,20 +42,20 @@ fn checks(
     ensures { λ r. ⌜ r ≡ checksFrom (model .config) s n (now (lens .entry)) labels places columns marks floats words ⌝ }
 {
     let config = model.config;
-    let a = tracks::config::check_config(config);
-    if tracks::refusal::is_refused(a) {
+    let a = settings::config::check_config(config);
+    if settings::refusal::is_refused(a) {
         return a;
     }
-    let b = tracks::slices::check_lengths(lens, n, n, n, n, labels);
-    if tracks::refusal::is_refused(b) {
+    let b = checks::slices::check_lengths(lens, n, n, n, n, labels);
+    if settings::refusal::is_refused(b) {
         return b;
     }
-    let c = tracks::slices::check_counts(lens.len(), n, places);
-    if tracks::refusal::is_refused(c) {
+    let c = checks::slices::check_counts(lens.len(), n, places);
+    if settings::refusal::is_refused(c) {
         return c;
     }
-    let d = tracks::slices::check_work(n, places, work_floats(n, columns, marks, floats), words);
-    if tracks::refusal::is_refused(d) {
+    let d = checks::slices::check_work(n, places, work_floats(n, columns, marks, floats), words);
+    if settings::refusal::is_refused(d) {
         return d;
     }
     crate::judge::contents(s)
@@ -88,7 +88,7 @@ pub fn decide(
         floats,
         words,
     );
-    if tracks::refusal::is_refused(checked) {
+    if settings::refusal::is_refused(checked) {
         return Verdict {
             checked: checked,
             fixes: 0,

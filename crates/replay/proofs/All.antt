@@ -1,4 +1,4 @@
--- Laws of lists whose items are all one value, item by item. Assumes nothing.
+-- Laws of lists whose items are all one value, item by item.
 use mathlib.Core.Path.{_≡_, sym, ap, subst}
 use mathlib.Core.Bool.{true, false}
 use mathlib.Core.List.{List}
@@ -12,7 +12,7 @@ use lib.Seq.{drop-cons}
 use lib.Ieee.{Float, nan, binary64, ne, toBits}
 use lib.Ieee.Compare.{differs-from-itself}
 use Rattle.float.specs.Binary64.{sameBits}
-use Rattle.replay.specs.Same.{allFloats, sameWord, allWords}
+use Rattle.replay.specs.Same.{allFloats, sameWord, allWords, allBytes}
 
 -- the bits of a NaN
 pub nan-bits : (x : Float) → ne x x ≡ true → 9221120237041090560 ≡ toBits binary64 x
@@ -44,3 +44,16 @@ module _ (w : ℤ) (s : List ℤ) (i : ℕ) where
   pub words-end : length s ≤ i → true ≡ allWords w (drop i s)
   unfolding allWords
   words-end h = rw (drop-of-length-le s h)
+
+module _ (b : ℕ) (s : List ℕ) (i : ℕ) where
+  pub bytes-on : i < length s → getD s i 0 ≡ b → allBytes b (drop (i + 1) s) ≡ allBytes b (drop i s)
+  unfolding allBytes
+  bytes-on h e = rw (add-one i, drop-cons s i 0 h, eq-eqb _ _ e)
+
+  pub bytes-stop : i < length s → (getD s i 0 ≡ b → ⊥) → false ≡ allBytes b (drop i s)
+  unfolding allBytes
+  bytes-stop h e = rw (drop-cons s i 0 h, ne-eqb _ _ e)
+
+  pub bytes-end : length s ≤ i → true ≡ allBytes b (drop i s)
+  unfolding allBytes
+  bytes-end h = rw (drop-of-length-le s h)

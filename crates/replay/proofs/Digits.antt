@@ -1,18 +1,14 @@
--- Laws of the digits of a text. Assumes nothing.
-use mathlib.Core.Path.{_≡_, refl, sym}
+-- Laws of the digits of a text.
+use mathlib.Core.Path.{_≡_, refl}
 use mathlib.Core.Bool.{Bool, true, false, _&&_, false≢true}
 use mathlib.Core.List.{List}
 use Prim.Native.Nat.{ℕ, _+_, _-_, _*_, _^_, _≤_, _<_}
 use native.Mathlib.Numerals.{add-one}
 use native.Mathlib.Omega.{arith}
 use borrow.Author.Tests.{leb-true, lt-ltb, le-ltb}
-use lib.Dec.{T, leb}
-use lib.IntN.{ℤ, pos, negsuc, natAbs}
-use lib.Signed.{ltZ, nonNeg}
+use lib.Dec.{leb}
 use lib.ListN.{length, drop, getD, drop-of-length-le}
 use lib.Seq.{drop-cons}
-use mir.Syntax.{w32, w64}
-use mir.Val.{Fits, SFits}
 use Rattle.replay.specs.Numbers.{isDigit, withDigit, before, digits, value}
 
 both : (s t : Bool) → (s && t) ≡ true → (s ≡ true) × (t ≡ true)
@@ -70,8 +66,3 @@ module _ (t : List ℕ) (i : ℕ) (h : length t ≤ i) where
   pub value-end : (n : ℕ) → n ≡ value n (drop i t)
   unfolding value
   value-end n = rw (drop-of-length-le t h)
-
--- a label that is not negative, as an unsigned number
-pub as-number : (l : ℤ) → ltZ l (pos 0) ≡ false → SFits w32 l → T (nonNeg l) × Fits w64 (natAbs l)
-as-number (pos n) h f = (tt, record { fits = omega (arith, f .sfits) })
-as-number (negsuc n) h f = absurd (false≢true (sym h))

@@ -1,5 +1,5 @@
 -- Unsigned decimal numbers in a text of bytes. Definitions only.
-use Prim.Native.Nat.{ℕ, suc, _+_, _-_, _*_, _^_}
+use Prim.Native.Nat.{ℕ, zero, suc, _+_, _-_, _*_, _^_}
 use mathlib.Core.Bool.{Bool, _&&_, cond}
 use mathlib.Core.List.{List, [], _∷_}
 use lib.ListN.{drop}
@@ -37,3 +37,12 @@ valueAt t i = value 0 (drop (start t i) t)
 
 abbrev pub after : List ℕ → ℕ → ℕ
 after t i = start t i + digits (drop (start t i) t)
+
+-- The place after n numbers from the place i on, and number n from there on, counted from 0.
+unfoldable pub skip : List ℕ → ℕ → ℕ → ℕ
+skip t i zero = i
+skip t i (suc n) = after t (skip t i n)
+
+unfoldable pub numberAt : List ℕ → ℕ → ℕ → ℕ
+unfolding skip
+numberAt t i n = valueAt t (skip t i n)

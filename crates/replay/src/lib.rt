@@ -5,7 +5,7 @@ ghost use mathlib.Core.Bool.{true};
 ghost use Prim.Native.Nat.{_+_};
 ghost use lib.ListN.{length, drop, replicate};
 ghost use lib.Ieee.{binary64, ofBits, toBits};
-ghost use Rattle.replay.specs.Same.{allFloats, sameWord, allWords};
+ghost use Rattle.replay.specs.Same.{allFloats, sameWord, allWords, allBytes};
 ghost use Rattle.replay.specs.Numbers.{isDigit, withDigit, digits, value, start, valueAt, after};
 
 // Room for a list: 1,000,000 zeros. The length is said beside them, since lending the array as a slice asks for it.
@@ -133,7 +133,8 @@ pub fn all_floats(s: &[f64], x: f64) -> bool
     true
 }
 
-fn same_word(a: i32, b: i32) -> bool
+// Whether two words are equal.
+pub fn same_word(a: i32, b: i32) -> bool
     ensures { λ r. ⌜ r ≡ sameWord a b ⌝ }
 {
     a == b
@@ -153,10 +154,44 @@ pub fn all_words(s: &[i32], w: i32) -> bool
     true
 }
 
+// Whether all bytes are b.
+pub fn all_bytes(s: &[u8], b: u8) -> bool
+    ensures { λ r. ⌜ r ≡ allBytes b (now (s .entry)) ⌝ }
+{
+    let mut i = 0;
+    while i < s.len() {
+        if s[i] != b {
+            return false;
+        }
+        i += 1;
+    }
+    true
+}
+
 pub fn space() {
     io::write_all(STDOUT_FILENO, b" ");
 }
 
 pub fn line_end() {
     io::write_all(STDOUT_FILENO, b"\n");
+}
+
+// Prints each label behind a space.
+pub fn print_labels(labels: &[i32]) {
+    let mut i = 0;
+    while i < labels.len() {
+        space();
+        print_label(labels[i]);
+        i += 1;
+    }
+}
+
+// Prints 1 where b holds, else 0, behind a space.
+pub fn print_flag(b: bool) {
+    space();
+    if b {
+        print_number(1);
+    } else {
+        print_number(0);
+    }
 }

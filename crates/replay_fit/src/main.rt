@@ -1,144 +1,23 @@
 // Replays a list of fits: settings `r1 r2 single stay gap size seed`, the number of traces, their lengths, and for each fix `x y mark time`,
 // floats as their bits. Prints, for each, the number and trace of its refusal, or `0 0`, the label of each fix, the number of places, the bits
-// of each one's x and y with its label, the mark (0 rest, 1 spent, 2 none kept) and the rounds. There is room for 256 traces and 256 fixes.
+// of each one's x and y with its label, the mark (0 rest, 1 spent, 2 none kept) and the rounds; then the number of labels, and the bits of the
+// x and y of each label's median, in rising label. There is room for 256 traces and 256 fixes.
 use infomap::Mark;
 use infostop::answer::Answer;
 use infostop::model::Infostop;
 use libc::STDIN_FILENO;
 use libc::STDOUT_FILENO;
-use tracks::config::Config;
-use tracks::refusal::Checked;
-use tracks::refusal::Refusal;
-ghost use mathlib.Core.Path.{_≡_};
+use reports::answer::Reported;
+use settings::config::Config;
+use settings::refusal::Checked;
 ghost use Prim.Native.Nat.{_≤_};
 ghost use lib.ListN.{length};
-
-// The settings of a fit and its number of traces, and the place after them.
-pub struct Head {
-    pub config: Config,
-    pub traces: usize,
-    pub next: usize,
-}
-
-fn read_head(text: &[u8], at: usize) -> Head {
-    let r1 = replay::number(text, at);
-    let r2 = replay::number(text, r1.next);
-    let single = replay::number(text, r2.next);
-    let stay = replay::number(text, single.next);
-    let gap = replay::number(text, stay.next);
-    let size = replay::number(text, gap.next);
-    let seed = replay::number(text, size.next);
-    let traces = replay::number(text, seed.next);
-    Head {
-        config: Config {
-            r1: replay::float_of_bits(r1.value),
-            r2: replay::float_of_bits(r2.value),
-            label_singleton: single.value == 1,
-            min_staying_time: replay::float_of_bits(stay.value),
-            max_time_between: replay::float_of_bits(gap.value),
-            min_size: size.value as usize,
-            seed: seed.value,
-        },
-        traces: traces.value as usize,
-        next: traces.next,
-    }
-}
-
-// The number of fixes so far, and the place after a length.
-pub struct Fixes {
-    pub count: usize,
-    pub next: usize,
-}
-
-// A length, 257 for every longer one.
-fn length_of(n: u64) -> u32 {
-    if n <= 256 { n as u32 } else { 257 }
-}
-
-// The sum, 257 for every larger one.
-fn sum(count: usize, len: u32) -> usize {
-    if count <= 256 {
-        if len <= 256 {
-            let s = count + len as usize;
-            if s <= 256 {
-                return s;
-            }
-        }
-    }
-    257
-}
-
-// Reads as many trace lengths as the slice is long, and adds them up.
-fn read_lens(text: &[u8], at: usize, lens: &mut [u32]) -> Fixes {
-    let mut count = 0;
-    let mut next = at;
-    let mut k = 0;
-    while k < lens.len() {
-        let n = replay::number(text, next);
-        let len = length_of(n.value);
-        lens[k] = len;
-        count = sum(count, len);
-        next = n.next;
-        k += 1;
-    }
-    Fixes {
-        count: count,
-        next: next,
-    }
-}
-
-fn mark_of(n: u64) -> u8 {
-    if n <= 255 { n as u8 } else { 255 }
-}
-
-// Reads as many fixes as the slices are long, and hands back the place after them.
-fn read_fixes(
-    text: &[u8],
-    at: usize,
-    xs: &mut [f64],
-    ys: &mut [f64],
-    times: &mut [f64],
-    marks: &mut [u8],
-) -> usize
-    requires { ⌜ (length (now ys) ≡ length (now xs)) × (length (now times) ≡ length (now xs)) × (length (now marks) ≡ length (now xs)) ⌝ }
-{
-    let mut next = at;
-    let mut i = 0;
-    while i < xs.len() {
-        let x = replay::number(text, next);
-        let y = replay::number(text, x.next);
-        let m = replay::number(text, y.next);
-        let t = replay::number(text, m.next);
-        xs[i] = replay::float_of_bits(x.value);
-        ys[i] = replay::float_of_bits(y.value);
-        marks[i] = mark_of(m.value);
-        times[i] = replay::float_of_bits(t.value);
-        next = t.next;
-        i += 1;
-    }
-    next
-}
-
-fn print_refusal(e: Refusal) {
-    replay::print_number(tracks::refusal::number(e) as u64);
-    replay::space();
-    replay::print_number(tracks::refusal::trace(e) as u64);
-}
 
 fn mark_number(m: Mark) -> u64 {
     match m {
         Mark::Rest => 0,
         Mark::Spent => 1,
         Mark::NoneKept => 2,
-    }
-}
-
-fn print_labels(labels: &[i32]) {
-    let mut i = 0;
-    while i < labels.len() {
-        replay::space();
-        replay::print_label(labels[i]);
-        i += 1;
     }
 }
 
@@ -170,6 +49,37 @@ fn print_model(m: Infostop) {
     }
 }
 
+// Prints the first n points.
+fn print_points(n: usize, xs: &[f64; 512], ys: &[f64; 512])
+    requires { ⌜ n ≤ 512 ⌝ }
+{
+    let mut i = 0;
+    while i < n {
+        replay::space();
+        replay::print_float(xs[i]);
+        replay::space();
+        replay::print_float(ys[i]);
+        i += 1;
+    }
+}
+
+// Asks for the label medians of a fitted model, and prints their number and the medians.
+fn print_medians(m: Infostop) {
+    let mut xs = [0.0f64; 512];
+    let mut ys = [0.0f64; 512];
+    let r = reports::medians::label_medians(m, &mut xs, &mut ys);
+    replay::space();
+    match r {
+        Reported::Refused(e) => replay_case::print_refusal(e),
+        Reported::Count(n) => {
+            replay::print_number(n as u64);
+            if n <= 512 {
+                print_points(n, &xs, &ys);
+            }
+        }
+    }
+}
+
 // Fits, and prints the answer.
 fn print_fit(
     model: Infostop,
@@ -185,16 +95,17 @@ fn print_fit(
     let f = model.fit_predict_many(xs, ys, times, marks, lens, labels, 512, floats, words);
     let answer = f.answer;
     match answer {
-        Answer::Refused(e) => print_refusal(e),
+        Answer::Refused(e) => replay_case::print_refusal(e),
         Answer::Labelled(mark, rounds) => {
             io::write_all(STDOUT_FILENO, b"0 0");
-            print_labels(labels);
+            replay::print_labels(labels);
             let fitted = f.model;
             print_model(fitted);
             replay::space();
             replay::print_number(mark_number(mark));
             replay::space();
             replay::print_number(rounds as u64);
+            print_medians(fitted);
         }
     }
 }
@@ -229,7 +140,7 @@ fn answer(config: Config, xs: &[f64], ys: &[f64], times: &[f64], marks: &[u8], l
     let made = Infostop::from_config(config);
     let checked = made.checked;
     match checked {
-        Checked::Refused(e) => print_refusal(e),
+        Checked::Refused(e) => replay_case::print_refusal(e),
         Checked::Accepted => {
             let model = made.model;
             with_work(model, xs, ys, times, marks, lens);
@@ -237,58 +148,47 @@ fn answer(config: Config, xs: &[f64], ys: &[f64], times: &[f64], marks: &[u8], l
     }
 }
 
-// Reads the fixes and answers, and hands back the place after them.
-fn with_fixes(
-    text: &[u8],
-    at: usize,
-    config: Config,
-    lens: &[u32],
-    xs: &mut [f64],
-    ys: &mut [f64],
-    times: &mut [f64],
-    marks: &mut [u8],
-) -> usize
-    requires { ⌜ (length (now ys) ≡ length (now xs)) × (length (now times) ≡ length (now xs)) × (length (now marks) ≡ length (now xs)) × (length (now xs) ≤ 256) ⌝ }
-{
-    let next = read_fixes(text, at, xs, ys, times, marks);
-    answer(config, xs, ys, times, marks, lens);
-    next
-}
-
-// Reads the trace lengths, then the fixes. A case with more than 256 fixes is not answered.
-fn with_lens(text: &[u8], at: usize, config: Config, lens: &mut [u32]) -> usize {
-    let fixes = read_lens(text, at, lens);
-    let n = fixes.count;
+// Reads the fixes and answers, and hands back the place after them. A case with more than 256 fixes is not answered.
+fn with_lens(text: &[u8], at: usize, config: Config, lens: &[u32]) -> usize {
+    let n = replay_case::fix_count(lens);
     if 256 < n {
         io::write_all(STDOUT_FILENO, b"too many fixes");
-        return fixes.next;
+        return at;
     }
     let mut xs = [0.0f64; 256];
     let mut ys = [0.0f64; 256];
     let mut times = [0.0f64; 256];
     let mut marks = [0u8; 256];
-    with_fixes(
-        text,
-        fixes.next,
+    let next = replay_case::read_fixes(text, at, n, &mut xs, &mut ys, &mut times, &mut marks);
+    answer(
         config,
+        &xs[0..n],
+        &ys[0..n],
+        &times[0..n],
+        &marks[0..n],
         lens,
-        &mut xs[0..n],
-        &mut ys[0..n],
-        &mut times[0..n],
-        &mut marks[0..n],
-    )
+    );
+    next
+}
+
+// Reads the trace lengths, then the fixes.
+fn with_traces(text: &[u8], at: usize, config: Config, lens: &mut [u32]) -> usize {
+    let next = replay_case::read_lens(text, at, lens);
+    with_lens(text, next, config, lens)
 }
 
 // Answers the case at `at`, and hands back the place after it. A case with more than 256 traces is not answered.
 fn one_case(text: &[u8], at: usize) -> usize {
-    let h = read_head(text, at);
-    let traces = h.traces;
+    let settings = replay_case::read_settings(text, at);
+    let config = settings.config;
+    let count = replay::number(text, settings.next);
+    let traces = count.value as usize;
     if 256 < traces {
         io::write_all(STDOUT_FILENO, b"too many traces");
-        return h.next;
+        return count.next;
     }
     let mut lens = [0u32; 256];
-    with_lens(text, h.next, h.config, &mut lens[0..traces])
+    with_traces(text, count.next, config, &mut lens[0..traces])
 }
 
 fn all_cases(text: &[u8]) {

@@ -5,7 +5,7 @@ use infomap::Mark;
 use libc::STDIN_FILENO;
 ghost use Prim.Native.Nat.{_≤_};
 ghost use lib.ListN.{length};
-ghost use Rattle.map_state.specs.Arrays.{Rows};
+ghost use Rattle.map_state.specs.Steps.{Rows};
 
 // Writes the weight from a to b, of 64 nodes.
 fn put(table: &mut [f64], a: u64, b: u64, w: f64) {

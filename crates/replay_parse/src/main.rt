@@ -5,18 +5,6 @@
 use libc::STDIN_FILENO;
 use text::Input;
 use text::Parsed;
-use tracks::refusal::Refusal;
-
-fn marks_kept(s: &[u8]) -> bool {
-    let mut i = 0;
-    while i < s.len() {
-        if s[i] != 7 {
-            return false;
-        }
-        i += 1;
-    }
-    true
-}
 
 fn lens_kept(s: &[u32]) -> bool {
     let mut i = 0;
@@ -39,16 +27,10 @@ fn all_kept(xs: &[f64], ys: &[f64], times: &[f64], marks: &[u8], lens: &[u32]) -
     if !replay::all_floats(times, -0.0) {
         return false;
     }
-    if !marks_kept(marks) {
+    if !replay::all_bytes(marks, 7) {
         return false;
     }
     lens_kept(lens)
-}
-
-fn print_refusal(e: Refusal) {
-    replay::print_number(tracks::refusal::number(e) as u64);
-    replay::space();
-    replay::print_number(tracks::refusal::trace(e) as u64);
 }
 
 fn print_answer(p: Parsed) {
@@ -58,16 +40,7 @@ fn print_answer(p: Parsed) {
             replay::space();
             replay::print_number(0);
         }
-        Parsed::Refused(e) => print_refusal(e),
-    }
-}
-
-fn print_flag(b: bool) {
-    replay::space();
-    if b {
-        replay::print_number(1);
-    } else {
-        replay::print_number(0);
+        Parsed::Refused(e) => replay_case::print_refusal(e),
     }
 }
 
@@ -131,7 +104,7 @@ fn answer(
 ) {
     let p = text::parse(t, xs, ys, times, marks, lens);
     print_answer(p);
-    print_flag(all_kept(xs, ys, times, marks, lens));
+    replay::print_flag(all_kept(xs, ys, times, marks, lens));
     if let Parsed::Tracks(i) = p {
         print_taken(i, xs, ys, times, marks, lens);
     }

@@ -1,42 +1,10 @@
 // Replays a list of cases `r1 min_size min_staying_time max_time_between n` and n times `x y mark time`, floats as their bits. Prints, for each
 // case, the stay number of each fix, the number of stays, and the bits of each stay's median.
 use libc::STDIN_FILENO;
-use stay::StaySettings;
+use settings::config::Config;
 ghost use mathlib.Core.Path.{_≡_};
 ghost use lib.ListN.{length};
-ghost use Rattle.replay_stay.specs.Room.{Room};
-
-fn mark_of(n: u64) -> u8 {
-    if n == 1 { 1 } else { 0 }
-}
-
-// Reads as many fixes as the slices are long, and hands back the place after them.
-fn read_fixes(
-    text: &[u8],
-    at: usize,
-    xs: &mut [f64],
-    ys: &mut [f64],
-    times: &mut [f64],
-    marks: &mut [u8],
-) -> usize
-    requires { ⌜ (length (now ys) ≡ length (now xs)) × (length (now times) ≡ length (now xs)) × (length (now marks) ≡ length (now xs)) ⌝ }
-{
-    let mut next = at;
-    let mut i = 0;
-    while i < xs.len() {
-        let x = replay::number(text, next);
-        let y = replay::number(text, x.next);
-        let m = replay::number(text, y.next);
-        let t = replay::number(text, m.next);
-        xs[i] = replay::float_of_bits(x.value);
-        ys[i] = replay::float_of_bits(y.value);
-        marks[i] = mark_of(m.value);
-        times[i] = replay::float_of_bits(t.value);
-        next = t.next;
-        i += 1;
-    }
-    next
-}
+ghost use Rattle.replay_stay.specs.Steps.{Room};
 
 fn print_events(events: &[i32]) {
     let mut i = 0;
@@ -60,21 +28,18 @@ fn print_medians(xs: &[f64], ys: &[f64])
     }
 }
 
-// Answers a case whose trace has as many fixes as the slices are long, in a work slice of 1,600 numbers.
+// Answers for a trace, in a work slice of 1,600 numbers.
 fn answer(
-    text: &[u8],
-    at: usize,
-    s: StaySettings,
-    xs: &mut [f64],
-    ys: &mut [f64],
-    times: &mut [f64],
-    marks: &mut [u8],
+    s: Config,
+    xs: &[f64],
+    ys: &[f64],
+    times: &[f64],
+    marks: &[u8],
     work: &mut [f64],
     events: &mut [i32],
-) -> usize
+)
     requires { ⌜ Room (length (now xs)) (length (now ys)) (length (now times)) (length (now marks)) (length (now work)) (length (now events)) ⌝ }
 {
-    let next = read_fixes(text, at, xs, ys, times, marks);
     let k = stay::stays(xs, ys, times, marks, s, work, 0, events);
     print_events(events);
     replay::print_number(k as u64);
@@ -84,12 +49,11 @@ fn answer(
         print_medians(&work[800..a], &work[1200..b]);
     }
     replay::line_end();
-    next
 }
 
-// The head of a case, and the place after it.
+// The head of a case, and the place after it. Stays do not look at the settings that a case leaves out.
 pub struct Head {
-    pub s: StaySettings,
+    pub s: Config,
     pub fixes: usize,
     pub next: usize,
 }
@@ -101,11 +65,14 @@ fn read_head(text: &[u8], at: usize) -> Head {
     let gap = replay::number(text, stay.next);
     let fixes = replay::number(text, gap.next);
     Head {
-        s: StaySettings {
+        s: Config {
             r1: replay::float_of_bits(r1.value),
-            min_size: size.value as usize,
+            r2: 10.0,
+            label_singleton: true,
             min_staying_time: replay::float_of_bits(stay.value),
             max_time_between: replay::float_of_bits(gap.value),
+            min_size: size.value as usize,
+            seed: 42,
         },
         fixes: fixes.value as usize,
         next: fixes.next,
@@ -125,17 +92,17 @@ fn one_case(text: &[u8], at: usize) -> usize {
     let mut marks = [0u8; 400];
     let mut work = [0.0f64; 1600];
     let mut events = [0i32; 400];
+    let next = replay_case::read_fixes(text, h.next, n, &mut xs, &mut ys, &mut times, &mut marks);
     answer(
-        text,
-        h.next,
         h.s,
-        &mut xs[0..n],
-        &mut ys[0..n],
-        &mut times[0..n],
-        &mut marks[0..n],
+        &xs[0..n],
+        &ys[0..n],
+        &times[0..n],
+        &marks[0..n],
         &mut work,
         &mut events[0..n],
-    )
+    );
+    next
 }
 
 fn all_cases(text: &[u8]) {

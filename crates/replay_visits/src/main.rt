@@ -11,24 +11,17 @@ use infostop::model::Infostop;
 use libc::STDIN_FILENO;
 use libc::STDOUT_FILENO;
 use reports::answer::Reported;
-use tracks::config::Config;
-use tracks::refusal::Refusal;
-ghost use mathlib.Core.Path.{_≡_};
+use settings::config::Config;
 ghost use Prim.Native.Nat.{_≤_};
 ghost use lib.ListN.{length};
+ghost use Rattle.replay_visits.specs.Steps.{Columns, Within};
 
 mod read;
-
-fn print_refusal(e: Refusal) {
-    replay::print_number(tracks::refusal::number(e) as u64);
-    replay::space();
-    replay::print_number(tracks::refusal::trace(e) as u64);
-}
 
 // Prints the refusal, or `0 0` and the number of items.
 fn print_reported(r: Reported) {
     match r {
-        Reported::Refused(e) => print_refusal(e),
+        Reported::Refused(e) => replay_case::print_refusal(e),
         Reported::Count(n) => {
             io::write_all(STDOUT_FILENO, b"0 0 ");
             replay::print_number(n as u64);
@@ -64,15 +57,6 @@ fn print_words(out: &[i32; 8]) {
     while i < 8 {
         replay::space();
         replay::print_label(out[i]);
-        i += 1;
-    }
-}
-
-fn print_labels(labels: &[i32]) {
-    let mut i = 0;
-    while i < labels.len() {
-        replay::space();
-        replay::print_label(labels[i]);
         i += 1;
     }
 }
@@ -166,7 +150,7 @@ fn print_visits(
     marks: &[u8],
     lens: &[u32],
 )
-    requires { ⌜ (length (now ys) ≡ length (now xs)) × (length (now times) ≡ length (now xs)) × (length (now marks) ≡ length (now xs)) × (length (now xs) ≤ 257) × (s .room ≤ 8) ⌝ }
+    requires { ⌜ Columns (length (now xs)) (length (now ys)) (length (now times)) (length (now marks)) × (s .room ≤ 8) ⌝ }
 {
     let mut floats = [0.5f64; 1028];
     let mut words = [9i32; 1028];
@@ -257,7 +241,7 @@ fn print_view(lens: &[u32], n: usize, s: Sizes)
     let mut refusal = 7u32;
     let part = reports::view::trace_view(lens, &labels[0..k], s.trace, &mut refusal);
     replay::print_number(refusal as u64);
-    print_labels(part);
+    replay::print_labels(part);
     replay::line_end();
 }
 
@@ -279,7 +263,7 @@ fn print_all(
     marks: &[u8],
     lens: &[u32],
 )
-    requires { ⌜ (length (now ys) ≡ length (now xs)) × (length (now times) ≡ length (now xs)) × (length (now marks) ≡ length (now xs)) × (length (now xs) ≤ 257) × (s .room ≤ 8) ⌝ }
+    requires { ⌜ Columns (length (now xs)) (length (now ys)) (length (now times)) (length (now marks)) × (s .room ≤ 8) ⌝ }
 {
     let n = xs.len();
     print_visits(m, s, xs, ys, times, marks, lens);
@@ -328,7 +312,7 @@ fn fit_and_report(
     marks: &[u8],
     lens: &[u32],
 )
-    requires { ⌜ (length (now ys) ≡ length (now xs)) × (length (now times) ≡ length (now xs)) × (length (now marks) ≡ length (now xs)) × (length (now xs) ≤ 257) × (s .until ≤ length (now xs)) × (s .fitted ≤ length (now lens)) × (s .room ≤ 8) ⌝ }
+    requires { ⌜ Columns (length (now xs)) (length (now ys)) (length (now times)) (length (now marks)) × Within s (length (now xs)) (length (now lens)) ⌝ }
 {
     let n = s.until;
     let k = s.fitted;
@@ -353,68 +337,56 @@ fn answer(
     marks: &[u8],
     lens: &[u32],
 )
-    requires { ⌜ (length (now ys) ≡ length (now xs)) × (length (now times) ≡ length (now xs)) × (length (now marks) ≡ length (now xs)) × (length (now xs) ≤ 257) × (s .until ≤ length (now xs)) × (s .fitted ≤ length (now lens)) × (s .room ≤ 8) ⌝ }
+    requires { ⌜ Columns (length (now xs)) (length (now ys)) (length (now times)) (length (now marks)) × Within s (length (now xs)) (length (now lens)) ⌝ }
 {
     let made = Infostop::from_config(config);
     let model = made.model;
     fit_and_report(model, s, xs, ys, times, marks, lens);
 }
 
-// Reads the fixes and answers, and hands back the place after them.
-fn with_fixes(
-    text: &[u8],
-    at: usize,
-    config: Config,
-    s: Sizes,
-    lens: &[u32],
-    xs: &mut [f64],
-    ys: &mut [f64],
-    times: &mut [f64],
-    marks: &mut [u8],
-) -> usize
-    requires { ⌜ (length (now ys) ≡ length (now xs)) × (length (now times) ≡ length (now xs)) × (length (now marks) ≡ length (now xs)) × (length (now xs) ≤ 257) × (s .until ≤ length (now xs)) × (s .fitted ≤ length (now lens)) × (s .room ≤ 8) ⌝ }
-{
-    let next = read::read_fixes(text, at, xs, ys, times, marks);
-    answer(config, s, xs, ys, times, marks, lens);
-    next
-}
-
-// Makes room for n fixes.
-fn with_room(text: &[u8], at: usize, config: Config, s: Sizes, lens: &[u32], n: usize) -> usize
-    requires { ⌜ (n ≤ 257) × (s .until ≤ n) × (s .fitted ≤ length (now lens)) × (s .room ≤ 8) ⌝ }
+// Reads n fixes and answers, and hands back the place after them.
+fn with_fixes(text: &[u8], at: usize, config: Config, s: Sizes, lens: &[u32], n: usize) -> usize
+    requires { ⌜ (n ≤ 257) × Within s n (length (now lens)) ⌝ }
 {
     let mut xs = [0.0f64; 257];
     let mut ys = [0.0f64; 257];
     let mut times = [0.0f64; 257];
     let mut marks = [0u8; 257];
-    with_fixes(
-        text,
-        at,
+    let next = replay_case::read_fixes(text, at, n, &mut xs, &mut ys, &mut times, &mut marks);
+    answer(
         config,
         s,
+        &xs[0..n],
+        &ys[0..n],
+        &times[0..n],
+        &marks[0..n],
         lens,
-        &mut xs[0..n],
-        &mut ys[0..n],
-        &mut times[0..n],
-        &mut marks[0..n],
-    )
+    );
+    next
 }
 
-// Reads the trace lengths, then the fixes. A case with more than 257 fixes, or with more that are fitted than there are, is not answered.
-fn with_lens(text: &[u8], at: usize, config: Config, s: Sizes, lens: &mut [u32]) -> usize
+// Reads the fixes. A case with more than 257 fixes, or with more that are fitted than there are, is not answered.
+fn with_lens(text: &[u8], at: usize, config: Config, s: Sizes, lens: &[u32]) -> usize
     requires { ⌜ (s .fitted ≤ length (now lens)) × (s .room ≤ 8) ⌝ }
 {
-    let fixes = read::read_lens(text, at, lens);
-    let n = fixes.count;
+    let n = replay_case::fix_count(lens);
     if 257 < n {
         io::write_all(STDOUT_FILENO, b"too many fixes\n");
-        return fixes.next;
+        return at;
     }
     if n < s.until {
         io::write_all(STDOUT_FILENO, b"too few fixes\n");
-        return fixes.next;
+        return at;
     }
-    with_room(text, fixes.next, config, s, lens, n)
+    with_fixes(text, at, config, s, lens, n)
+}
+
+// Reads the trace lengths, then the fixes.
+fn with_traces(text: &[u8], at: usize, config: Config, s: Sizes, lens: &mut [u32]) -> usize
+    requires { ⌜ (s .fitted ≤ length (now lens)) × (s .room ≤ 8) ⌝ }
+{
+    let next = replay_case::read_lens(text, at, lens);
+    with_lens(text, next, config, s, lens)
 }
 
 // Answers the case at `at`, and hands back the place after it. A case for which there is no room is not answered.
@@ -435,7 +407,7 @@ fn one_case(text: &[u8], at: usize) -> usize {
         return h.next;
     }
     let mut lens = [0u32; 257];
-    with_lens(text, h.next, h.config, s, &mut lens[0..traces])
+    with_traces(text, h.next, h.config, s, &mut lens[0..traces])
 }
 
 fn all_cases(text: &[u8]) {

@@ -1,7 +1,7 @@
 -- The text of a fit's answer.
 use mathlib.Core.Path.{_≡_, refl, sym, ap, ap₂, _∙_, subst}
 use mathlib.Core.List.{List}
-use Prim.Native.Nat.{ℕ, _-_, _≤_}
+use Prim.Native.Nat.{ℕ, _≤_}
 use native.Mathlib.Nat.{sub-zero}
 use native.Mathlib.Omega.{arith}
 use lib.IntN.{ℤ, pos, negsuc}
@@ -10,46 +10,52 @@ use lib.Ieee.{Float}
 use Rattle.float.specs.Binary64.{zero64}
 use Rattle.infomap.specs.declared.Mark.{Mark}
 use Rattle.infomap.specs.Infomap.{markOf}
-use Rattle.tracks.specs.declared.config.Config.{Config}
-use Rattle.tracks.specs.declared.refusal.Refusal.{Refusal}
-use Rattle.tracks.specs.Refusals.{numberOf, traceOf}
-use Rattle.fit.specs.Fit.{Fitted, Outcome, refused, fitted, fit}
+use Rattle.settings.specs.declared.config.Config.{Config}
+use Rattle.settings.specs.declared.refusal.Refusal.{Refusal}
+use Rattle.settings.specs.Refusals.{numberOf, traceOf}
+use Rattle.infostop.specs.Fit.{Outcome, refused, fitted, fit}
 use Rattle.infostop.specs.declared.model.Infostop.{Infostop}
 use Rattle.infostop.specs.declared.model.Made.{Made}
-use Rattle.infostop.specs.declared.answer.Answer.{Answer}
 use Rattle.infostop.specs.declared.answer.Answer.the-variants.{Labelled, Refused}
 use Rattle.infostop.specs.declared.answer.Fit.{Fit}
 use Rattle.infostop.specs.Models.{fromConfig}
-use Rattle.infostop.specs.Ends.{kept, no, told, toldBy, Ended}
-use Rattle.infostop.proofs.Slices.{lent, back, lent-length, lent-first, back-length, back-part}
+use Rattle.infostop.specs.Ends.{refusedWith, toldBy, Ended}
+use Rattle.lists.proofs.Parts.{lent, back, lent-length, lent-first, back-length, back-part}
 use Rattle.infostop.proofs.Ending.{no-kept}
 use Rattle.text.specs.declared.Input.{Input}
 use Rattle.print.specs.Lines.{labelsText, refusalText}
 use Rattle.print.specs.Written.{Writes}
 use Rattle.reply.specs.Program.{outcomeText}
 
-labelled-outcome : (lens : List ℕ) (m : Infostop) (old labels : List ℤ) (r : Fit) (o : Outcome) (k : Mark) (n : ℕ) → Ended m old o r labels → r .answer ≡ Labelled k n → labelsText lens labels ≡ outcomeText lens o
+labelled-outcome : (lens : List ℕ) (m : Infostop) (old labels : List ℤ) (r : Fit) (o : Outcome) (k : Mark) (n : ℕ) → Ended m old o r labels
+    → r .answer ≡ Labelled k n → labelsText lens labels ≡ outcomeText lens o
 unfolding outcomeText
 labelled-outcome lens m old labels r (refused e) k n x a = no-kept (markOf k) n _ _ (ap toldBy (sym a) ∙ x .answer)
 labelled-outcome lens m old labels r (fitted f) k n x a = ap (labelsText lens) (x .fixes)
 
 -- A refusal's text is that of its number and trace.
-same-text : (e f : Refusal) → no (numberOf e) (traceOf e) ≡ no (numberOf f) (traceOf f) → refusalText e ≡ refusalText f
+same-text : (e f : Refusal) → refusedWith (numberOf e) (traceOf e) ≡ refusedWith (numberOf f) (traceOf f) → refusalText e ≡ refusalText f
 unfolding refusalText
 same-text e f q =
     let n : numberOf e ≡ numberOf f = cc in
     let t : traceOf e ≡ traceOf f = cc in
     rw (n, t)
 
-refused-outcome : (lens : List ℕ) (m : Infostop) (old labels : List ℤ) (r : Fit) (o : Outcome) (e : Refusal) → Ended m old o r labels → r .answer ≡ Refused e → refusalText e ≡ outcomeText lens o
+refused-outcome : (lens : List ℕ) (m : Infostop) (old labels : List ℤ) (r : Fit) (o : Outcome) (e : Refusal) → Ended m old o r labels → r .answer ≡ Refused e
+    → refusalText e ≡ outcomeText lens o
 unfolding outcomeText
 refused-outcome lens m old labels r (refused f) e x a = same-text e f (ap toldBy (sym a) ∙ x .answer)
 refused-outcome lens m old labels r (fitted f) e x a = no-kept (f .mark) (f .rounds) _ _ (sym (ap toldBy (sym a) ∙ x .answer))
 
-pub labels-room : (n : ℕ) (labels : List ℤ) → n ≤ 768 → length labels ≡ length (lent 0 n (replicate 768 (negsuc 0))) → n ≤ length (back 0 n labels (replicate 768 (negsuc 0)))
+-- The program's labels, before the fit.
+abbrev noLabels : List ℤ
+noLabels = replicate 768 (negsuc 0)
+
+pub labels-room : (n : ℕ) (labels : List ℤ) → n ≤ 768 → length labels ≡ length (lent 0 n noLabels)
+    → n ≤ length (back 0 n labels noLabels)
 labels-room n labels h e =
     let l = length-replicate 768 (negsuc 0) in
-    let i = back-length 0 n labels (replicate 768 (negsuc 0)) (omega arith) (omega arith) (e ∙ lent-length 0 n (replicate 768 (negsuc 0)) (omega arith) (omega arith)) in
+    let i = back-length 0 n labels noLabels (omega arith) (omega arith) (e ∙ lent-length 0 n noLabels (omega arith) (omega arith)) in
     omega arith
 
 -- ---- the fit of the first fixes of the columns, with arrays for labels and work
@@ -57,37 +63,39 @@ module _ (i : Input) (xs ys times : List Float) (marks lens : List ℕ) (few : i
   abbrev n : ℕ
   n = i .fixes
 
-  abbrev parts : Outcome
-  parts =
-      fit (i .config) (lent 0 n xs) (lent 0 n ys) (lent 0 n times) (lent 0 n marks) (lent 0 (i .traces) lens) (length (lent 0 n (replicate 768 (negsuc 0)))) 64 (length (replicate 7168 zero64))
+  -- With the parts that are lent.
+  abbrev partsFit : Config → Outcome
+  partsFit s =
+      fit s (lent 0 n xs) (lent 0 n ys) (lent 0 n times) (lent 0 n marks) (lent 0 (i .traces) lens) (length (lent 0 n noLabels)) 64 (length (replicate 7168 zero64))
       (length (replicate {A = ℤ} 3584 (pos 0)))
 
   abbrev firsts : Outcome
   firsts = fit (i .config) (take n xs) (take n ys) (take n times) (take n marks) (take (i .traces) lens) n 64 7168 3584
 
-  labels-long : length (lent 0 n (replicate 768 (negsuc 0))) ≡ n
-  labels-long = lent-length 0 n (replicate 768 (negsuc 0)) (omega arith) (omega (arith, length-replicate 768 (negsuc 0))) ∙ sub-zero n
+  labels-long : length (lent 0 n noLabels) ≡ n
+  labels-long = lent-length 0 n noLabels (omega arith) (omega (arith, length-replicate 768 (negsuc 0))) ∙ sub-zero n
 
-  parts-are : parts ≡ firsts
+  parts-are : partsFit (i .config) ≡ firsts
   parts-are = rw (lent-first n xs, lent-first n ys, lent-first n times, lent-first n marks, lent-first (i .traces) lens, labels-long, length-replicate 7168 zero64) refl
 
   module _ (x : Made) (made : x ≡ fromConfig (i .config)) (r : Fit) (labels : List ℤ)
-      (ended : Ended (x .model) (lent 0 n (replicate 768 (negsuc 0))) (fit (x .model .config) (lent 0 n xs) (lent 0 n ys) (lent 0 n times) (lent 0 n marks) (lent 0 (i .traces) lens) (length (lent 0 n (replicate 768 (negsuc 0)))) 64 (length (replicate 7168 zero64)) (length (replicate {A = ℤ} 3584 (pos 0)))) r labels)
+      (ended : Ended (x .model) (lent 0 n noLabels) (partsFit (x .model .config)) r labels)
       (out : List ℕ) (used : ℕ) (out' : List ℕ) where
     same-config : x .model .config ≡ i .config
     unfolding fromConfig
     same-config = ap (λ (z : Made). z .model .config) made
 
-    ends : Ended (x .model) (lent 0 n (replicate 768 (negsuc 0))) firsts r labels
-    ends = subst (λ (o : Outcome). Ended (x .model) (lent 0 n (replicate 768 (negsuc 0))) o r labels) (rw same-config parts-are) ended
+    ends : Ended (x .model) (lent 0 n noLabels) firsts r labels
+    ends = subst (λ (o : Outcome). Ended (x .model) (lent 0 n noLabels) o r labels) (rw same-config parts-are) ended
 
     pub refused-writes : (e : Refusal) → r .answer ≡ Refused e → Writes (refusalText e) out used out' → Writes (outcomeText (take (i .traces) lens) firsts) out used out'
     refused-writes e a w = subst (λ (t : List ℕ). Writes t out used out') (refused-outcome (take (i .traces) lens) _ _ labels r firsts e ends a) w
 
-    pub labelled-writes : length labels ≡ length (lent 0 n (replicate 768 (negsuc 0))) → (k : Mark) (rounds : ℕ) → r .answer ≡ Labelled k rounds
-        → Writes (labelsText (lent 0 (i .traces) lens) (lent 0 n (back 0 n labels (replicate 768 (negsuc 0))))) out used out' → Writes (outcomeText (take (i .traces) lens) firsts) out used out'
+    pub labelled-writes : length labels ≡ length (lent 0 n noLabels) → (k : Mark) (rounds : ℕ) → r .answer ≡ Labelled k rounds
+        → Writes (labelsText (lent 0 (i .traces) lens) (lent 0 n (back 0 n labels noLabels))) out used out'
+        → Writes (outcomeText (take (i .traces) lens) firsts) out used out'
     labelled-writes long k rounds a w =
         subst (λ (t : List ℕ). Writes t out used out')
-        (ap₂ labelsText (lent-first (i .traces) lens) (back-part 0 n labels (replicate 768 (negsuc 0)) (omega arith) (long ∙ labels-long ∙ sym (sub-zero n)))
+        (ap₂ labelsText (lent-first (i .traces) lens) (back-part 0 n labels noLabels (omega arith) (long ∙ labels-long ∙ sym (sub-zero n)))
         ∙ labelled-outcome (take (i .traces) lens) _ _ labels r firsts k rounds ends a)
         w

@@ -1,5 +1,5 @@
 -- What a text that was read gives the fit: its columns stand in front of the slices, and the answer is the definition's.
-use mathlib.Core.Path.{_≡_, refl, sym, ap, ap₂, _∙_, subst}
+use mathlib.Core.Path.{_≡_, refl, sym, ap, _∙_, subst}
 use mathlib.Core.Bool.{Bool, true, false}
 use mathlib.Core.List.{List, [], _∷_, map}
 use Prim.Native.Nat.{ℕ, zero, suc, _+_, _≤_}
@@ -8,29 +8,26 @@ use borrow.Author.Tests.{ltb-false}
 use lib.Dec.{ltb}
 use lib.ListN.{length, take, replicate, length-replicate, length-map}
 use lib.Seq.{take-all}
-use lib.Ieee.{Float}
 use Rattle.lists.specs.Lists.{overlay}
 use Rattle.lists.proofs.Overlay.{take-front, length-overlay}
 use Rattle.float.specs.Binary64.{zero64}
-use Rattle.tracks.specs.declared.config.Config.{Config}
-use Rattle.tracks.specs.declared.refusal.Refusal.{Refusal}
-use Rattle.tracks.specs.declared.refusal.Refusal.the-variants.{Text, Counts}
-use Rattle.tracks.specs.declared.refusal.Checked.{Checked}
-use Rattle.tracks.specs.declared.refusal.Checked.the-variants as checked
-use Rattle.tracks.specs.Settings.{checkConfig}
-use Rattle.fit.specs.Fit.{Outcome, refused, unlessRefused, fit}
+use Rattle.settings.specs.declared.config.Config.{Config}
+use Rattle.settings.specs.declared.refusal.Refusal.{Refusal}
+use Rattle.settings.specs.declared.refusal.Refusal.the-variants.{Text, Counts}
+use Rattle.settings.specs.declared.refusal.Checked.{Checked}
+use Rattle.settings.specs.declared.refusal.Checked.the-variants as checked
+use Rattle.settings.specs.Settings.{checkConfig}
+use Rattle.infostop.specs.Fit.{refused, unlessRefused}
 use Rattle.text.specs.declared.Input.{Input}
 use Rattle.text.specs.declared.Parsed.{Parsed}
 use Rattle.text.specs.declared.Parsed.the-variants.{Tracks, Refused}
-use Rattle.text.specs.Values.{FixLine, Read, outside, inside, read, xsOf, ysOf, timesOf, marksOf, timeValue, timeMark, withFix, lengthsFrom, lengthsOf}
-use Rattle.text.specs.Parsed.{tooMany, unlessMany, taken, parsed, firstFixes, into}
-use Rattle.text.specs.declared.Reader.{Reader}
-use Rattle.text.specs.Pieces.{startReader, holding, finished, Fed}
-use Rattle.text.specs.Steps.{run}
-use Rattle.text.proofs.Pieces.{fed-whole, fed-read}
+use Rattle.text.specs.Values.{FixLine, Read, outside, inside, read, timeValue, timeMark, withFix, lengthsFrom, lengthsOf, Columns}
+use Rattle.text.specs.Parsed.{tooMany, unlessMany, atMost768, parsed, into, withColumns}
+use Rattle.text.specs.Pieces.{firstFixes}
 use Rattle.print.specs.Lines.{refusalText}
 use Rattle.print.specs.Written.{Writes}
-use Rattle.reply.specs.Program.{outcomeText, fixesText, readText, programText, FromText}
+use Rattle.reply.specs.Program.{outcomeText, fixesText, readText, programText, freshColumns, FromText}
+use Rattle.reply.specs.Steps.{Room, fitText}
 
 -- ---- the number of traces
 
@@ -68,20 +65,8 @@ first-all ls h = take-all 768 ls h
 
 -- ---- the answer
 
--- What was fed, in whatever pieces, and finished.
-pub from-fed : (t : List ℕ) {r : Reader} {p : Parsed} {xs ys times : List Float} {marks lens : List ℕ} → Fed (replicate 768 zero64) (replicate 768 zero64) (replicate 768 zero64) (replicate 768 0) (replicate 768 0) t r xs ys times marks lens
-    → p ≡ finished r → FromText t p xs ys times marks lens
-from-fed t {r} {p} {xs} {ys} {times} {marks} {lens} f q =
-    subst (λ (z : Parsed). FromText t z xs ys times marks lens) (sym q)
-    (fed-read (replicate 768 zero64) (replicate 768 zero64) (replicate 768 zero64) (replicate 768 0) (replicate 768 0) t r xs ys times marks lens f)
-
 pub writes-as : {t u out out' : List ℕ} {r : ℕ} → t ≡ u → Writes t out r out' → Writes u out r out'
 writes-as {t} {u} {out} {out'} {r} e w = subst (λ (z : List ℕ). Writes z out r out') e w
-
--- What was fed in one piece, and finished.
-pub from-text : (t : List ℕ) {s r : Reader} {p : Parsed} {xs ys times : List Float} {marks lens : List ℕ} → s ≡ startReader
-    → holding r xs ys times marks lens ≡ run (holding s (replicate 768 zero64) (replicate 768 zero64) (replicate 768 zero64) (replicate 768 0) (replicate 768 0)) t → p ≡ finished r → FromText t p xs ys times marks lens
-from-text t e f q = from-fed t (fed-whole e f) q
 
 not-both : {A : Type 0} (i : Input) (e : Refusal) → Tracks i ≡ Refused e → A
 not-both i e q = absurd (let z : _≡_ {A = ℕ} 0 1 = cc in omega arith)
@@ -92,13 +77,14 @@ same-refusal e f q = cc
 same-input : (i j : Input) → Tracks i ≡ Tracks j → i ≡ j
 same-input i j q = cc
 
-many-text : (c : Config) (ls : List FixLine) (k : Checked) (e : Refusal) → tooMany k ≡ Refused e → outcomeText (lengthsOf ls) (unlessRefused k (refused Counts)) ≡ refusalText e
+many-text : (c : Config) (ls : List FixLine) (k : Checked) (e : Refusal) → tooMany k ≡ Refused e
+    → outcomeText (lengthsOf ls) (unlessRefused k (refused Counts)) ≡ refusalText e
 unfolding tooMany unlessRefused outcomeText
 many-text c ls checked.Accepted e q = ap refusalText (same-refusal Counts e q)
 many-text c ls (checked.Refused f) e q = ap refusalText (same-refusal f e q)
 
 refused-read : (q : Read) (e : Refusal) → parsed q ≡ Refused e → readText q ≡ refusalText e
-unfolding parsed taken readText
+unfolding parsed atMost768 readText
 refused-read outside e p = ap refusalText (same-refusal Text e p)
 refused-read (inside c ls) e p = go (ltb 768 (length ls)) p
   where
@@ -107,20 +93,13 @@ refused-read (inside c ls) e p = go (ltb 768 (length ls)) p
     go false r = unfold unlessMany in not-both _ e r
 
 -- What the columns are for the fit.
-pub record Given (i : Input) (xs ys times : List Float) (marks lens : List ℕ) (q : Read) : Type 0 where
-  pub few-fixes : i .fixes ≤ 768
-  pub xs-room : i .fixes ≤ length xs
-  pub ys-room : i .fixes ≤ length ys
-  pub times-room : i .fixes ≤ length times
-  pub marks-room : i .fixes ≤ length marks
-  pub lens-room : i .traces ≤ length lens
-  pub text : outcomeText (take (i .traces) lens) (fit (i .config) (take (i .fixes) xs) (take (i .fixes) ys) (take (i .fixes) times) (take (i .fixes) marks) (take (i .traces) lens) (i .fixes) 64 7168 3584) ≡ readText q
+pub record Given (i : Input) (c : Columns) (q : Read) : Type 0 where
+  pub room : Room i c
+  pub text : fitText i c ≡ readText q
 
-module _ (c : Config) (ls : List FixLine) (few : length ls ≤ 768) (xs ys times : List Float) (marks lens : List ℕ)
-    (hx : xs ≡ into (replicate 768 zero64) (xsOf (firstFixes ls))) (hy : ys ≡ into (replicate 768 zero64) (ysOf (firstFixes ls))) (ht : times ≡ into (replicate 768 zero64) (timesOf (firstFixes ls)))
-    (hm : marks ≡ into (replicate 768 0) (marksOf (firstFixes ls))) (hl : lens ≡ into (replicate 768 0) (lengthsOf (firstFixes ls))) where
+module _ (s : Config) (ls : List FixLine) (few : length ls ≤ 768) (c : Columns) (e : c ≡ withColumns freshColumns (firstFixes ls)) where
   abbrev input : Input
-  input = record { config = c; fixes = length ls; traces = length (lengthsOf ls) }
+  input = record { config = s; fixes = length ls; traces = length (lengthsOf ls) }
 
   all-of : {A : Type 0} (f : List FixLine → List A) (d : A) (s : List A) → s ≡ into (replicate 768 d) (f (firstFixes ls)) → s ≡ into (replicate 768 d) (f ls)
   all-of {A} f d s e = e ∙ ap (λ (z : List FixLine). into (replicate 768 d) (f z)) (first-all ls few)
@@ -131,56 +110,58 @@ module _ (c : Config) (ls : List FixLine) (few : length ls ≤ 768) (xs ys times
       let h : length (map f ls) ≤ 768 = omega arith in
       (column d (map f ls) s h (all-of (map f) d s e) (length ls) (sym l), column-long d (map f ls) s h (all-of (map f) d s e))
 
-  lengths : (take (length (lengthsOf ls)) lens ≡ lengthsOf ls) × (length lens ≡ 768)
+  lengths : (take (length (lengthsOf ls)) (c .lens) ≡ lengthsOf ls) × (length (c .lens) ≡ 768)
+  unfolding withColumns
   lengths =
       let h : length (lengthsOf ls) ≤ 768 = omega (arith, traces-few ls) in
-      (column 0 (lengthsOf ls) lens h (all-of lengthsOf 0 lens hl) (length (lengthsOf ls)) refl, column-long 0 (lengthsOf ls) lens h (all-of lengthsOf 0 lens hl))
+      let k = all-of lengthsOf 0 (c .lens) (ap (λ (d : Columns). d .lens) e) in
+      (column 0 (lengthsOf ls) (c .lens) h k (length (lengthsOf ls)) refl, column-long 0 (lengthsOf ls) (c .lens) h k)
 
-  given : (b : Bool) → b ≡ false → ltb 768 (length ls) ≡ b → Given input xs ys times marks lens (inside c ls)
-  unfolding readText fixesText
+  given : (b : Bool) → b ≡ false → ltb 768 (length ls) ≡ b → Given input c (inside s ls)
+  unfolding readText fixesText withColumns
   given true p q = absurd (let z : _≡_ {A = ℕ} 0 1 = cc in omega arith)
   given false p q =
-      let x = mapped (λ (l : FixLine). l .x) zero64 xs hx in
-      let y = mapped (λ (l : FixLine). l .y) zero64 ys hy in
-      let t = mapped (λ (l : FixLine). timeValue (l .time)) zero64 times ht in
-      let m = mapped (λ (l : FixLine). timeMark (l .time)) 0 marks hm in
+      let x = mapped (λ (l : FixLine). l .x) zero64 (c .xs) (ap (λ (d : Columns). d .xs) e) in
+      let y = mapped (λ (l : FixLine). l .y) zero64 (c .ys) (ap (λ (d : Columns). d .ys) e) in
+      let t = mapped (λ (l : FixLine). timeValue (l .time)) zero64 (c .times) (ap (λ (d : Columns). d .times) e) in
+      let m = mapped (λ (l : FixLine). timeMark (l .time)) 0 (c .marks) (ap (λ (d : Columns). d .marks) e) in
       record {
-        few-fixes = few;
-        xs-room = omega (arith, x .1);
-        ys-room = omega (arith, y .1);
-        times-room = omega (arith, t .1);
-        marks-room = omega (arith, m .1);
-        lens-room = omega (arith, lengths .1, traces-few ls);
+        room = record {
+          few-fixes = few;
+          xs-room = omega (arith, x .1);
+          ys-room = omega (arith, y .1);
+          times-room = omega (arith, t .1);
+          marks-room = omega (arith, m .1);
+          lens-room = omega (arith, lengths .1, traces-few ls);
+        };
         text = rw (x .0, y .0, t .0, m .0, lengths .0, q) refl;
       }
 
-module _ (t : List ℕ) (p : Parsed) (xs ys times : List Float) (marks lens : List ℕ) (r : FromText t p xs ys times marks lens) where
+module _ {t : List ℕ} {p : Parsed} {c : Columns} (r : FromText t p c) where
   -- A refusal is the program's.
   pub refused-text : (e : Refusal) → p ≡ Refused e → programText t ≡ refusalText e
   unfolding programText
   refused-text e q = refused-read (read t) e (sym (r .answer) ∙ q)
 
   -- Tracks are given to the fit as the text has them.
-  pub tracks-text : (i : Input) → p ≡ Tracks i → Given i xs ys times marks lens (read t)
+  pub tracks-text : (i : Input) → p ≡ Tracks i → Given i c (read t)
   tracks-text i q = go (read t) refl (sym (r .answer) ∙ q)
     where
-      go : (u : Read) → read t ≡ u → parsed u ≡ Tracks i → Given i xs ys times marks lens u
+      go : (u : Read) → read t ≡ u → parsed u ≡ Tracks i → Given i c u
       go outside e z = unfold parsed in not-both i Text (sym z)
-      go (inside c ls) e z = within (ltb 768 (length ls)) refl (unfold parsed taken in z)
+      go (inside s ls) e z = within (ltb 768 (length ls)) refl (unfold parsed atMost768 in z)
         where
-          within : (b : Bool) → ltb 768 (length ls) ≡ b → unlessMany b c (length ls) (length (lengthsOf ls)) ≡ Tracks i → Given i xs ys times marks lens (inside c ls)
-          within true y w = unfold unlessMany in many (checkConfig c) w
+          within : (b : Bool) → ltb 768 (length ls) ≡ b → unlessMany b s (length ls) (length (lengthsOf ls)) ≡ Tracks i → Given i c (inside s ls)
+          within true y w = unfold unlessMany in many (checkConfig s) w
             where
-              many : (k : Checked) → tooMany k ≡ Tracks i → Given i xs ys times marks lens (inside c ls)
+              many : (k : Checked) → tooMany k ≡ Tracks i → Given i c (inside s ls)
               many checked.Accepted v = unfold tooMany in not-both i Counts (sym v)
               many (checked.Refused f) v = unfold tooMany in not-both i f (sym v)
           within false y w =
-              let k = r .columns c ls e in
-              let v : Tracks (record { config = c; fixes = length ls; traces = length (lengthsOf ls) }) ≡ Tracks i = unfold unlessMany in w in
-              subst (λ (j : Input). Given j xs ys times marks lens (inside c ls)) (same-input (record { config = c; fixes = length ls; traces = length (lengthsOf ls) }) i v)
-              (given c ls (ltb-false 768 (length ls) y) xs ys times marks lens (k .0) (k .1) (k .2) (k .3) (k .4) false refl y)
+              let v : Tracks (record { config = s; fixes = length ls; traces = length (lengthsOf ls) }) ≡ Tracks i = unfold unlessMany in w in
+              subst (λ (j : Input). Given j c (inside s ls)) (same-input (record { config = s; fixes = length ls; traces = length (lengthsOf ls) }) i v)
+              (given s ls (ltb-false 768 (length ls) y) c (r .slices s ls e) false refl y)
 
-  pub program-is : (i : Input) → p ≡ Tracks i
-      → outcomeText (take (i .traces) lens) (fit (i .config) (take (i .fixes) xs) (take (i .fixes) ys) (take (i .fixes) times) (take (i .fixes) marks) (take (i .traces) lens) (i .fixes) 64 7168 3584) ≡ programText t
+  pub program-is : (i : Input) → p ≡ Tracks i → fitText i c ≡ programText t
   unfolding programText
   program-is i q = tracks-text i q .text

@@ -1,5 +1,5 @@
 -- The answer to a text of any length has at most 49,152 bytes, so in a slice of that length it stands whole.
-use mathlib.Core.Path.{_≡_, refl, ap, _∙_}
+use mathlib.Core.Path.{_≡_, refl}
 use mathlib.Core.Bool.{Bool, true, false}
 use mathlib.Core.List.{List}
 use Prim.Native.Nat.{ℕ, _≤_}
@@ -7,13 +7,13 @@ use native.Mathlib.Omega.{arith}
 use borrow.Author.Tests.{ltb-false}
 use lib.Dec.{ltb}
 use lib.ListN.{length, take, length-map}
-use Rattle.tracks.specs.declared.config.Config.{Config}
-use Rattle.tracks.specs.declared.refusal.Refusal.the-variants.{Text, Counts}
-use Rattle.tracks.specs.declared.refusal.Checked.{Checked}
-use Rattle.tracks.specs.declared.refusal.Checked.the-variants.{Accepted, Refused}
-use Rattle.tracks.specs.Settings.{checkConfig}
-use Rattle.fit.specs.Fit.{Fitted, Outcome, refused, fitted, unlessRefused, fit}
-use Rattle.fit.proofs.Accepted.{fit-labels}
+use Rattle.settings.specs.declared.config.Config.{Config}
+use Rattle.settings.specs.declared.refusal.Refusal.the-variants.{Text, Counts}
+use Rattle.settings.specs.declared.refusal.Checked.{Checked}
+use Rattle.settings.specs.declared.refusal.Checked.the-variants.{Accepted, Refused}
+use Rattle.settings.specs.Settings.{checkConfig}
+use Rattle.infostop.specs.Fit.{Outcome, refused, fitted, unlessRefused, fit}
+use Rattle.infostop.proofs.Accepted.{fit-labels}
 use Rattle.text.specs.Values.{FixLine, Read, outside, inside, read, xsOf, ysOf, timesOf, marksOf, lengthsOf}
 use Rattle.print.specs.Written.{Writes}
 use Rattle.print.proofs.Sizes.{labels-length, refusal-length, whole}

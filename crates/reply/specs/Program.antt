@@ -1,19 +1,19 @@
--- The whole program, from the bytes of its input to those of its output (docs/RULES.md, "Program `stops`"). Definitions only.
+-- The whole program, from the bytes of its input to those of its output (docs/RULES.md, "Program `stops`").
 use Prim.Native.Nat.{ℕ}
 use mathlib.Core.Bool.{Bool, true, false}
 use mathlib.Core.List.{List}
 use lib.Dec.{ltb}
 use lib.ListN.{length, replicate}
-use lib.Ieee.{Float}
 use Rattle.float.specs.Binary64.{zero64}
-use Rattle.tracks.specs.declared.config.Config.{Config}
-use Rattle.tracks.specs.declared.refusal.Refusal.the-variants.{Counts, Text}
-use Rattle.tracks.specs.Settings.{checkConfig}
-use Rattle.fit.specs.Fit.{Outcome, refused, fitted, unlessRefused, fit}
+use Rattle.settings.specs.declared.config.Config.{Config}
+use Rattle.settings.specs.declared.refusal.Refusal.the-variants.{Counts, Text}
+use Rattle.settings.specs.Settings.{checkConfig}
+use Rattle.infostop.specs.Fit.{Outcome, refused, fitted, unlessRefused, fit}
 use Rattle.text.specs.declared.Parsed.{Parsed}
-use Rattle.text.specs.Values.{FixLine, Read, outside, inside, read, xsOf, ysOf, timesOf, marksOf, lengthsOf}
+use Rattle.text.specs.Values.{FixLine, Read, outside, inside, read, xsOf, ysOf, timesOf, marksOf, lengthsOf, Columns, columns}
 use Rattle.text.specs.Pieces.{ReadAs}
 use Rattle.print.specs.Lines.{labelsText, refusalText}
+use Rattle.print.specs.Written.{Writes}
 
 -- The labels, in traces of these lengths, or the refusal.
 unfoldable pub outcomeText : List ℕ → Outcome → List ℕ
@@ -33,6 +33,14 @@ readText (inside c ls) = fixesText (ltb 768 (length ls)) c ls
 unfoldable pub programText : List ℕ → List ℕ
 programText t = readText (read t)
 
--- p was read from the text t, and the columns hold its first 768 fixes.
-abbrev pub FromText : List ℕ → Parsed → List Float → List Float → List Float → List ℕ → List ℕ → Type 0
-FromText t p xs ys times marks lens = ReadAs (replicate 768 zero64) (replicate 768 zero64) (replicate 768 zero64) (replicate 768 0) (replicate 768 0) t p xs ys times marks lens
+-- The slices that the program reads into, before it reads.
+abbrev pub freshColumns : Columns
+freshColumns = columns (replicate 768 zero64) (replicate 768 zero64) (replicate 768 zero64) (replicate 768 0) (replicate 768 0)
+
+-- p was read from the text t, and the slices c hold its first 768 fixes.
+abbrev pub FromText : List ℕ → Parsed → Columns → Type 0
+FromText t p c = ReadAs freshColumns t p c
+
+-- Whatever text p and the slices c were read from, its answer is written.
+pub record Answers (p : Parsed) (c : Columns) (out : List ℕ) (r : ℕ) (out' : List ℕ) : Type 0 where
+  pub writes : {t : List ℕ} → FromText t p c → Writes (programText t) out r out'

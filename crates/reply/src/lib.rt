@@ -4,11 +4,11 @@ use infostop::model::Infostop;
 use text::Input;
 use text::Parsed;
 ghost use mathlib.Core.List.{List};
-ghost use Prim.Native.Nat.{ℕ, _≤_};
-ghost use lib.ListN.{length, take};
-ghost use Rattle.fit.specs.Fit.{fit};
+ghost use Prim.Native.Nat.{ℕ};
+ghost use Rattle.text.specs.Values.{columns};
 ghost use Rattle.print.specs.Written.{Writes};
-ghost use Rattle.reply.specs.Program.{outcomeText, programText, FromText};
+ghost use Rattle.reply.specs.Program.{programText, FromText, Answers};
+ghost use Rattle.reply.specs.Steps.{Room, fitText};
 
 // The fit of the first fixes and traces of the columns, and its answer as a text.
 fn fit_text(
@@ -20,8 +20,10 @@ fn fit_text(
     lens: &[u32],
     out: &mut [u8],
 ) -> usize
-    requires { ⌜ (input .fixes ≤ 768) × (input .fixes ≤ length (now xs)) × (input .fixes ≤ length (now ys)) × (input .fixes ≤ length (now times)) × (input .fixes ≤ length (now marks)) × (input .traces ≤ length (now lens)) ⌝ }
-    ensures { λ r. ⌜ Writes (outcomeText (take (input .traces) (now (lens .entry))) (fit (input .config) (take (input .fixes) (now (xs .entry))) (take (input .fixes) (now (ys .entry))) (take (input .fixes) (now (times .entry))) (take (input .fixes) (now (marks .entry))) (take (input .traces) (now (lens .entry))) (input .fixes) 64 7168 3584)) (now (out .entry)) r (now (out .exit)) ⌝ }
+    requires { ⌜ Room input (columns (now xs) (now ys) (now times) (now marks) (now lens)) ⌝ }
+    ensures { λ r. ⌜
+        Writes (fitText input (columns (now (xs .entry)) (now (ys .entry)) (now (times .entry)) (now (marks .entry)) (now (lens .entry))))
+        (now (out .entry)) r (now (out .exit)) ⌝ }
 {
     let n = input.fixes;
     let k = input.traces;
@@ -58,8 +60,10 @@ pub fn answer(
     lens: &[u32],
     out: &mut [u8],
 ) -> usize
-    requires { ⌜ ((t : List ℕ) × FromText t p (now xs) (now ys) (now times) (now marks) (now lens)) ⌝ }
-    ensures { λ r. ⌜ ((t : List ℕ) → FromText t p (now (xs .entry)) (now (ys .entry)) (now (times .entry)) (now (marks .entry)) (now (lens .entry)) → Writes (programText t) (now (out .entry)) r (now (out .exit))) ⌝ }
+    requires { ⌜ ((t : List ℕ) × FromText t p (columns (now xs) (now ys) (now times) (now marks) (now lens))) ⌝ }
+    ensures { λ r. ⌜
+        Answers p (columns (now (xs .entry)) (now (ys .entry)) (now (times .entry)) (now (marks .entry)) (now (lens .entry)))
+        (now (out .entry)) r (now (out .exit)) ⌝ }
 {
     match p {
         Parsed::Refused(e) => print::print_refusal(e, out),

@@ -38,7 +38,8 @@ module _ {A : Type 0} (f : ℕ → A) (n : ℕ) (s : List A) where
   pub each-start : s ≡ overlay (take 0 (map f (upto n))) s
   each-start = front-start each s
 
-  pub each-on : (i : ℕ) (t : List A) {v : A} → t ≡ overlay (take i (map f (upto n))) s → i < n → n ≤ length s → v ≡ f i → set t i v ≡ overlay (take (i + 1) (map f (upto n))) s
+  pub each-on : (i : ℕ) (t : List A) {v : A} → t ≡ overlay (take i (map f (upto n))) s → i < n → n ≤ length s → v ≡ f i
+      → set t i v ≡ overlay (take (i + 1) (map f (upto n))) s
   each-on i t e h k q =
       let l = each-length in
       ap (set t i) (q ∙ sym (List·getD-map f (upto n) i 0 ∙ ap f (getD-upto n i h))) ∙ front-on each s (f 0) i t e (omega arith) (omega arith)

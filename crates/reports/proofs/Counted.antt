@@ -27,7 +27,8 @@ turn false n r v i h e q = (omega arith, omega arith)
 pub counted-on : (ks : List ℤ) (l n i r : ℕ) → CountedTo ks l n i → i < length ks → r ≡ cond (isLabel l (getD ks i (pos 0))) (suc n) n → CountedTo ks l r (i + 1)
 unfolding visitsTo
 counted-on ks l n i r inv h e =
-    let next = turn (isLabel l (getD ks i (pos 0))) n r (visitsTo (drop (suc i) ks) l) i (inv .0) e (ap (λ (z : List ℤ). n + visitsTo z l) (sym (drop-cons ks i (pos 0) h)) ∙ inv .2) in
+    let next = turn (isLabel l (getD ks i (pos 0))) n r (visitsTo (drop (suc i) ks) l) i (inv .0) e (ap (λ (z : List ℤ). n + visitsTo z l)
+    (sym (drop-cons ks i (pos 0) h)) ∙ inv .2) in
     (next .0, omega arith, ap (λ (z : ℕ). r + visitsTo (drop z ks) l) (add-one i) ∙ next .1)
 
 pub counted-end : (ks : List ℤ) (l n i : ℕ) → CountedTo ks l n i → length ks ≤ i → n ≡ visitsTo ks l

@@ -9,9 +9,10 @@ use lib.IntN.{ℤ, pos}
 use lib.ListN.{length, getD, take, drop, drop-of-length-le}
 use lib.Seq.{drop-cons, take-at, take-append-le, length-take-le}
 use lib.Ieee.{Float, nan}
-use Rattle.stay.specs.Ordered.{inOrder, insertOrdered, orderedFrom, ordered, median}
+use Rattle.stay.specs.StepsOrdered.{inOrder}
+use Rattle.stay.specs.Ordered.{insertOrdered, orderedFrom, ordered, median}
 use Rattle.stay.proofs.Ordered.{insert-length, insert-in-order}
-use Rattle.infostop.proofs.Slices.{lent, back, lent-first}
+use Rattle.lists.proofs.Parts.{lent, back, lent-first}
 use Rattle.reports.specs.Labels.{isLabel}
 use Rattle.reports.specs.LabelMedians.{withLabel, labelMedian}
 -- Named so that the examples are checked before these lemmas.
@@ -53,12 +54,15 @@ module _ (l : ℕ) (ks : List ℤ) (vs g : List Float) (n i : ℕ) (inv : Gather
   gather-on h r k e p q =
       let b = isLabel l (getD ks i (pos 0)) in
       let v = getD vs i nan in
-      let next : orderedFrom (take n g) (cond b (v ∷ withLabel l (drop (suc i) ks) (drop (suc i) vs)) (withLabel l (drop (suc i) ks) (drop (suc i) vs))) ≡ ordered (withLabel l ks vs)
-      = ap₂ (λ (a : List ℤ) (c : List Float). orderedFrom (take n g) (withLabel l a c)) (sym (drop-cons ks i (pos 0) k)) (sym (drop-cons vs i nan (omega arith))) ∙ inv .3 in (
+      let next : orderedFrom (take n g) (cond b (v ∷ withLabel l (drop (suc i) ks) (drop (suc i) vs)) (withLabel l (drop (suc i) ks)
+      (drop (suc i) vs))) ≡ ordered (withLabel l ks vs)
+      = ap₂ (λ (a : List ℤ) (c : List Float). orderedFrom (take n g) (withLabel l a c)) (sym (drop-cons ks i (pos 0) k))
+      (sym (drop-cons vs i nan (omega arith))) ∙ inv .3 in (
         turn-few b n i r (inv .0) p,
         omega arith,
         ap inOrder q ∙ turn-order b (take n g) v (inv .2),
-        ap₂ (λ (a : List Float) (z : ℕ). orderedFrom a (withLabel l (drop z ks) (drop z vs))) q (add-one i) ∙ turn b (take n g) (withLabel l (drop (suc i) ks) (drop (suc i) vs)) v next,
+        ap₂ (λ (a : List Float) (z : ℕ). orderedFrom a (withLabel l (drop z ks) (drop z vs))) q (add-one i)
+            ∙ turn b (take n g) (withLabel l (drop (suc i) ks) (drop (suc i) vs)) v next,
       )
 
   pub gather-end : length ks ≤ i → take n g ≡ ordered (withLabel l ks vs)
@@ -66,6 +70,7 @@ module _ (l : ℕ) (ks : List ℤ) (vs g : List Float) (n i : ℕ) (inv : Gather
   gather-end k = ap (λ (a : List ℤ). orderedFrom (take n g) (withLabel l a (drop i vs))) (sym (drop-of-length-le ks {i = i} k)) ∙ inv .3
 
 -- The median of what stands in front of an array after a part of it, of length k, has come back.
-pub gathered-median : (l : ℕ) (ks : List ℤ) (vs p a : List Float) (k n : ℕ) {m : Float} → length p ≡ k → n ≤ k → take n p ≡ ordered (withLabel l ks vs) → m ≡ median (lent 0 n (back 0 k p a)) → m ≡ labelMedian ks vs l
+pub gathered-median : (l : ℕ) (ks : List ℤ) (vs p a : List Float) (k n : ℕ) {m : Float} → length p ≡ k → n ≤ k
+    → take n p ≡ ordered (withLabel l ks vs) → m ≡ median (lent 0 n (back 0 k p a)) → m ≡ labelMedian ks vs l
 unfolding labelMedian
 gathered-median l ks vs p a k n e h q r = r ∙ ap median (lent-first n (back 0 k p a) ∙ take-append-le n p (drop (k - 0) (drop 0 a)) (omega arith) ∙ q)

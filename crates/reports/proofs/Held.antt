@@ -1,12 +1,12 @@
 -- The places and labels that stand in front of a model's arrays of 512.
 use mathlib.Core.Path.{_≡_, ap, _∙_}
 use mathlib.Core.List.{List}
-use Prim.Native.Nat.{ℕ, _-_, _≤_, min}
+use Prim.Native.Nat.{ℕ, _≤_, min}
 use native.Mathlib.Nat.{sub-zero}
 use native.Mathlib.Omega.{arith}
 use lib.ListN.{length, take}
 use lib.Seq.{length-take-le}
-use Rattle.infostop.proofs.Slices.{lent}
+use Rattle.lists.proofs.Parts.{lent}
 
 module _ {A : Type 0} (l : List A) (count n : ℕ) (full : length l ≡ 512) (few : n ≡ min count 512) where
   pub held-room : n ≤ length l

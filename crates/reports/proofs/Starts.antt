@@ -5,8 +5,8 @@ use Prim.Native.Nat.{ℕ, zero, suc, _+_, _<_, _≤_}
 use native.Mathlib.Numerals.{add-one}
 use native.Mathlib.Omega.{arith}
 use lib.ListN.{length, take, getD}
-use Rattle.tracks.specs.Tracks.{total}
-use Rattle.tracks.proofs.Parts.{offset-within}
+use Rattle.trace.specs.Trace.{total}
+use Rattle.trace.proofs.Parts.{offset-within}
 use Rattle.reports.specs.View.{traceStart}
 
 pub start-first : (ns : List ℕ) → 0 ≡ traceStart ns 0

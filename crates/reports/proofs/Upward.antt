@@ -40,19 +40,19 @@ pub above-fits : (k : ℤ) → ltZ k (pos 0) ≡ false → SFits w32 k → Fits 
 above-fits (pos n) h f = record { fits = omega (arith, f .sfits) }
 above-fits (negsuc n) h f = absurd (false≢true (sym h))
 
-max-assoc : (a b c : ℕ) → max (max a b) c ≡ max a (max b c)
-max-assoc a b c = omega arith
-
 -- ---- the loop over the labels: m of those before place i
 pub count-start : (ks : List ℤ) → labelsIn ks ≡ max 0 (labelsIn (drop 0 ks))
 count-start ks = sym (zero-max (labelsIn ks))
 
-pub count-on : (ks : List ℤ) (m i : ℕ) {t e r : ℕ} → t ≡ max m (labelsIn (drop i ks)) → i < length ks → e ≡ labelEnd (getD ks i (pos 0)) → r ≡ max m e → t ≡ max r (labelsIn (drop (i + 1) ks))
+pub count-on : (ks : List ℤ) (m i : ℕ) {t e r : ℕ} → t ≡ max m (labelsIn (drop i ks)) → i < length ks → e ≡ labelEnd (getD ks i (pos 0)) → r ≡ max m e
+    → t ≡ max r (labelsIn (drop (i + 1) ks))
 unfolding labelsIn
 count-on ks m i {t} {e} {r} h k p q =
+    let x = labelEnd (getD ks i (pos 0)) in
+    let y = labelsIn (drop (suc i) ks) in
+    let grouped : max m (max x y) ≡ max (max m x) y = omega arith in
     h ∙ ap (λ (z : List ℤ). max m (labelsIn z)) (drop-cons ks i (pos 0) k)
-    ∙ sym (max-assoc m (labelEnd (getD ks i (pos 0))) (labelsIn (drop (suc i) ks)))
-    ∙ ap₂ (λ (a : ℕ) (z : ℕ). max a (labelsIn (drop z ks))) (sym (q ∙ ap (max m) p)) (sym (add-one i))
+    ∙ grouped ∙ ap₂ (λ (a : ℕ) (z : ℕ). max a (labelsIn (drop z ks))) (sym (q ∙ ap (max m) p)) (sym (add-one i))
 
 pub count-end : (ks : List ℤ) (m i : ℕ) {t : ℕ} → t ≡ max m (labelsIn (drop i ks)) → length ks ≤ i → m ≡ t
 unfolding labelsIn

@@ -1,7 +1,7 @@
 -- The trace view, by what its check says.
 use mathlib.Core.Path.{_≡_, sym, ap, ap₂, _∙_}
 use mathlib.Core.List.{List, [], _++_}
-use Prim.Native.Nat.{ℕ, _+_, _-_, _*_, _<_, _≤_}
+use Prim.Native.Nat.{ℕ, _+_, _*_, _<_, _≤_}
 use native.Mathlib.Nat.{add-sub-cancel-left}
 use native.Mathlib.Omega.{arith}
 use borrow.Author.Tests.{leb-false}
@@ -9,15 +9,15 @@ use lib.IntN.{ℤ}
 use lib.ListN.{length, take, drop, getD, length-drop, take-append-drop}
 use lib.Seq.{drop-drop, length-take-le}
 use denote.Ref.{RefT, ptr, now}
-use Rattle.tracks.specs.declared.refusal.Refusal.{Refusal}
-use Rattle.tracks.specs.declared.refusal.Refusal.the-variants.{Output}
-use Rattle.tracks.specs.declared.refusal.Checked.{Checked}
-use Rattle.tracks.specs.declared.refusal.Checked.the-variants.{Accepted, Refused}
-use Rattle.tracks.specs.Refusals.{numberOf}
-use Rattle.tracks.specs.Tracks.{total}
-use Rattle.tracks.proofs.Turns.{passed, turn-first, turn-rest}
-use Rattle.tracks.proofs.Lengths.{lengths-agree}
-use Rattle.infostop.proofs.Slices.{lent}
+use Rattle.settings.specs.declared.refusal.Refusal.{Refusal}
+use Rattle.settings.specs.declared.refusal.Refusal.the-variants.{Output}
+use Rattle.settings.specs.declared.refusal.Checked.{Checked}
+use Rattle.settings.specs.declared.refusal.Checked.the-variants.{Accepted, Refused}
+use Rattle.settings.specs.Refusals.{numberOf}
+use Rattle.trace.specs.Trace.{total}
+use Rattle.settings.proofs.Turns.{passed, turn-first, turn-rest}
+use Rattle.checks.proofs.Lengths.{lengths-agree}
+use Rattle.lists.proofs.Parts.{lent}
 use Rattle.reports.specs.View.{checkView, traceStart, traceEnd, viewPart, viewStart, refusalNumber, viewChecked, Viewed}
 use Rattle.reports.proofs.Starts.{start-within}
 
@@ -36,9 +36,12 @@ module _ (lens : List ℕ) (n trace : ℕ) (h : checkView lens n trace ≡ Accep
 
 -- The labels before a part, the part and those behind it.
 whole-of : (a k : ℕ) (l : List ℤ) → take a l ++ (take k (drop a l) ++ drop (a + k) l) ≡ l
-whole-of a k l = ap (λ (z : List ℤ). take a l ++ (take k (drop a l) ++ z)) (sym (drop-drop k a l)) ∙ ap (λ (z : List ℤ). take a l ++ z) (take-append-drop k (drop a l)) ∙ take-append-drop a l
+whole-of a k l =
+    ap (λ (z : List ℤ). take a l ++ (take k (drop a l) ++ z)) (sym (drop-drop k a l))
+    ∙ ap (λ (z : List ℤ). take a l ++ z) (take-append-drop k (drop a l)) ∙ take-append-drop a l
 
-module _ (lens : List ℕ) (trace : ℕ) (labels part : RefT (List ℤ)) (number : ℕ) (r : Checked) (checked : r ≡ viewChecked lens trace labels) (memory : ptr part .0 ≡ ptr labels .0) where
+module _ (lens : List ℕ) (trace : ℕ) (labels part : RefT (List ℤ)) (number : ℕ) (r : Checked) (checked : r ≡ viewChecked lens trace labels)
+    (memory : ptr part .0 ≡ ptr labels .0) where
   pub view-refused : (e : Refusal) → r ≡ Refused e → number ≡ numberOf e → now part ≡ [] → ptr part .1 ≡ ptr labels .1 + 0 → Viewed lens trace labels part number
   view-refused e h q p a =
       let c = sym h ∙ checked in
@@ -53,7 +56,8 @@ module _ (lens : List ℕ) (trace : ℕ) (labels part : RefT (List ℤ)) (number
         refusal = q ∙ ap refusalNumber c;
       }
 
-  pub view-given : (from : ℕ) → r ≡ Accepted → from ≡ traceStart lens trace → number ≡ 0 → now part ≡ lent from (from + getD lens trace 0) (now labels) → ptr part .1 ≡ ptr labels .1 + from * 4 → Viewed lens trace labels part number
+  pub view-given : (from : ℕ) → r ≡ Accepted → from ≡ traceStart lens trace → number ≡ 0
+      → now part ≡ lent from (from + getD lens trace 0) (now labels) → ptr part .1 ≡ ptr labels .1 + from * 4 → Viewed lens trace labels part number
   unfolding traceEnd
   view-given from h q n p a =
       let c = sym h ∙ checked in

@@ -9,7 +9,7 @@ use lib.ListN.{length}
 use lib.Ieee.{Float}
 use Rattle.lists.specs.Lists.{upto}
 use Rattle.stay.specs.Ordered.{ordered, median}
-use Rattle.tracks.specs.declared.refusal.Checked.{Checked}
+use Rattle.settings.specs.declared.refusal.Checked.{Checked}
 use Rattle.infostop.specs.declared.model.Infostop.{Infostop}
 use Rattle.reports.specs.declared.answer.Reported.{Reported}
 use Rattle.reports.specs.Reports.{modelXs, modelYs, modelLabels, checkModel, reportIf, sliceAfter}

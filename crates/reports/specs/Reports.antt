@@ -9,10 +9,10 @@ use lib.IntN.{ℤ}
 use lib.ListN.{length, take}
 use lib.Ieee.{Float}
 use Rattle.lists.specs.Lists.{overlay}
-use Rattle.tracks.specs.declared.refusal.Refusal.the-variants.{NotFitted, Output}
-use Rattle.tracks.specs.declared.refusal.Checked.{Checked}
-use Rattle.tracks.specs.declared.refusal.Checked.the-variants.{Accepted, Refused}
-use Rattle.tracks.specs.Checks.{refuseIf, inTurn}
+use Rattle.settings.specs.declared.refusal.Refusal.the-variants.{NotFitted, Output}
+use Rattle.settings.specs.declared.refusal.Checked.{Checked}
+use Rattle.settings.specs.declared.refusal.Checked.the-variants.{Accepted, Refused}
+use Rattle.settings.specs.Checks.{refuseIf, inTurn}
 use Rattle.infostop.specs.declared.model.Infostop.{Infostop}
 use Rattle.reports.specs.declared.answer.Reported.{Reported}
 use Rattle.reports.specs.declared.answer.Reported.the-variants as reported
@@ -34,7 +34,7 @@ modelLabels m = take (placeCount m) (m .labels)
 unfoldable pub checkModel : Bool → Bool → Checked
 checkModel fitted lacking = inTurn (refuseIf (not fitted) NotFitted ∷ refuseIf lacking Output ∷ [])
 
--- A report of n items, or no report: a refusal, whose number and trace are `numberOf` and `traceOf` of crate `tracks`.
+-- A report of n items, or no report: a refusal, whose number and trace are `numberOf` and `traceOf` of crate `settings`.
 abbrev pub reportIf : Checked → ℕ → Reported
 reportIf Accepted n = reported.Count n
 reportIf (Refused e) n = reported.Refused e

@@ -6,12 +6,13 @@ use lib.Dec.{leb}
 use lib.IntN.{ℤ}
 use lib.ListN.{length, take, drop, getD}
 use denote.Ref.{RefT, ptr, now}
-use Rattle.tracks.specs.declared.refusal.Refusal.the-variants.{Output}
-use Rattle.tracks.specs.declared.refusal.Checked.{Checked}
-use Rattle.tracks.specs.declared.refusal.Checked.the-variants.{Accepted, Refused}
-use Rattle.tracks.specs.Checks.{refuseIf, inTurn}
-use Rattle.tracks.specs.Refusals.{numberOf}
-use Rattle.tracks.specs.Tracks.{total, checkLabelLengths}
+use Rattle.settings.specs.declared.refusal.Refusal.the-variants.{Output}
+use Rattle.settings.specs.declared.refusal.Checked.{Checked}
+use Rattle.settings.specs.declared.refusal.Checked.the-variants.{Accepted, Refused}
+use Rattle.settings.specs.Checks.{refuseIf, inTurn}
+use Rattle.settings.specs.Refusals.{numberOf}
+use Rattle.trace.specs.Trace.{total}
+use Rattle.checks.specs.Tracks.{checkLabelLengths}
 
 -- "It takes trace lengths, labels and a trace number, and no model: 7, 8, then 21." `labels` is the length of the label slice.
 unfoldable pub checkView : List ℕ → ℕ → ℕ → Checked

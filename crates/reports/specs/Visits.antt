@@ -9,14 +9,13 @@ use lib.ListN.{length, getD, replicate}
 use lib.Ieee.{Float}
 use Rattle.lists.specs.Lists.{upto}
 use Rattle.distance.specs.Distance.{euclidean}
-use Rattle.stay.specs.Trace.{Fix, fixes}
+use Rattle.trace.specs.Trace.{Fix, fixes, traces}
 use Rattle.stay.specs.Stays.{stayMedians}
 use Rattle.neighbors.specs.Places.{Place, placesIn}
-use Rattle.tracks.specs.declared.refusal.Checked.{Checked}
-use Rattle.tracks.specs.Checks.{isRefused, inTurn}
-use Rattle.tracks.specs.Tracks.{traces, checkReportTracks}
-use Rattle.events.specs.Events.{stayLabels}
-use Rattle.fit.specs.Fit.{staySettings}
+use Rattle.settings.specs.declared.refusal.Checked.{Checked}
+use Rattle.settings.specs.Checks.{isRefused, inTurn}
+use Rattle.checks.specs.Tracks.{checkReportTracks}
+use Rattle.cluster.specs.FixLabels.{stayLabels}
 use Rattle.infostop.specs.declared.model.Infostop.{Infostop}
 use Rattle.reports.specs.declared.answer.Reported.{Reported}
 use Rattle.reports.specs.Reports.{placeCount, modelXs, modelYs, modelLabels, checkModel, reportIf, sliceAfter}
@@ -29,7 +28,7 @@ modelPlaces m = placesIn (modelXs m) (modelYs m) (replicate (placeCount m) 0)
 -- The labels of a trace's accepted stays: that of the model's place which the median is, bit for bit; -1 where it is none. The places of a fit all differ;
 -- where a model made by hand has one twice, the first counts.
 unfoldable pub visitedLabels : Infostop → List Fix → List ℤ
-visitedLabels m t = stayLabels (modelPlaces m) (modelLabels m) (stayMedians euclidean (staySettings (m .config)) t)
+visitedLabels m t = stayLabels (modelPlaces m) (modelLabels m) (stayMedians euclidean (m .config) t)
 
 -- How many of the labels are l.
 unfoldable pub visitsTo : List ℤ → ℕ → ℕ

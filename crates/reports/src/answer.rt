@@ -1,5 +1,5 @@
 // What a report hands back.
-use tracks::refusal::Refusal;
+use settings::refusal::Refusal;
 
 // How many items the report has, or the refusal.
 pub enum Reported {

@@ -1,13 +1,14 @@
 // Label medians: the Rust's label_medians, in rising label, into lent slices.
 use crate::answer::Reported;
 use infostop::model::Infostop;
-use tracks::refusal::Checked;
+use settings::refusal::Checked;
 ghost use mathlib.Core.Path.{_≡_};
 ghost use mathlib.Core.Bool.{true, cond};
 ghost use Prim.Native.Nat.{_+_, _<_, _≤_};
 ghost use lib.ListN.{length, take};
 ghost use Rattle.lists.specs.Lists.{overlay};
-ghost use Rattle.stay.specs.Ordered.{inOrder, insertOrdered, ordered};
+ghost use Rattle.stay.specs.StepsOrdered.{inOrder};
+ghost use Rattle.stay.specs.Ordered.{insertOrdered, ordered};
 ghost use Rattle.reports.specs.Labels.{labelsIn, isLabel};
 ghost use Rattle.reports.specs.LabelMedians.{withLabel, labelMedian, labelMedians, MediansReported};
 
@@ -64,11 +65,11 @@ fn median_column(labels: &[i32], vs: &[f64], count: usize, out: &mut [f64])
 pub fn label_medians(m: Infostop, xs: &mut [f64], ys: &mut [f64]) -> Reported
     ensures { λ r. ⌜ MediansReported m (now (xs .entry)) (now (ys .entry)) r (now (xs .exit)) (now (ys .exit)) ⌝ }
 {
-    let n = crate::checks::at_most_512(m.count);
+    let n = crate::shared::at_most_512(m.count);
     let labels = m.labels;
     let count = crate::labels::label_count(&labels[0..n]);
-    let lacking = crate::checks::short(count, xs.len(), ys.len());
-    let checked = crate::checks::check_model(m.fitted, lacking);
+    let lacking = crate::shared::short(count, xs.len(), ys.len());
+    let checked = crate::shared::check_model(m.fitted, lacking);
     if let Checked::Refused(e) = checked {
         return Reported::Refused(e);
     }

@@ -1,7 +1,7 @@
 // The places of the model and their labels: the Rust's stationary_points and stationary_labels, into lent slices.
 use crate::answer::Reported;
 use infostop::model::Infostop;
-use tracks::refusal::Checked;
+use settings::refusal::Checked;
 ghost use mathlib.Core.Path.{_≡_};
 ghost use Prim.Native.Nat.{_≤_};
 ghost use lib.ListN.{length};
@@ -35,9 +35,9 @@ fn copy_labels(from: &[i32], to: &mut [i32])
 pub fn stationary_points(m: Infostop, xs: &mut [f64], ys: &mut [f64]) -> Reported
     ensures { λ r. ⌜ PointsReported m (now (xs .entry)) (now (ys .entry)) r (now (xs .exit)) (now (ys .exit)) ⌝ }
 {
-    let n = crate::checks::at_most_512(m.count);
-    let lacking = crate::checks::short(n, xs.len(), ys.len());
-    let checked = crate::checks::check_model(m.fitted, lacking);
+    let n = crate::shared::at_most_512(m.count);
+    let lacking = crate::shared::short(n, xs.len(), ys.len());
+    let checked = crate::shared::check_model(m.fitted, lacking);
     if let Checked::Refused(e) = checked {
         return Reported::Refused(e);
     }
@@ -52,9 +52,9 @@ pub fn stationary_points(m: Infostop, xs: &mut [f64], ys: &mut [f64]) -> Reporte
 pub fn stationary_labels(m: Infostop, labels: &mut [i32]) -> Reported
     ensures { λ r. ⌜ LabelsReported m (now (labels .entry)) r (now (labels .exit)) ⌝ }
 {
-    let n = crate::checks::at_most_512(m.count);
+    let n = crate::shared::at_most_512(m.count);
     let lacking = labels.len() < n;
-    let checked = crate::checks::check_model(m.fitted, lacking);
+    let checked = crate::shared::check_model(m.fitted, lacking);
     if let Checked::Refused(e) = checked {
         return Reported::Refused(e);
     }

@@ -1,6 +1,6 @@
 // The trace view: the labels of one trace, handed back as that part of the caller's label slice.
-use tracks::refusal::Checked;
-use tracks::refusal::Refusal;
+use settings::refusal::Checked;
+use settings::refusal::Refusal;
 ghost use mathlib.Core.Path.{_≡_};
 ghost use Rattle.reports.specs.View.{checkView, Viewed};
 
@@ -8,8 +8,8 @@ ghost use Rattle.reports.specs.View.{checkView, Viewed};
 pub fn check_view(lens: &[u32], labels: usize, trace: usize) -> Checked
     ensures { λ r. ⌜ r ≡ checkView (now (lens .entry)) labels trace ⌝ }
 {
-    let a = tracks::check_label_lengths(lens, labels);
-    if tracks::refusal::is_refused(a) {
+    let a = checks::check_label_lengths(lens, labels);
+    if settings::refusal::is_refused(a) {
         return a;
     }
     if lens.len() <= trace {
@@ -24,11 +24,11 @@ pub fn trace_view<'a>(lens: &[u32], labels: &'a [i32], trace: usize, refusal: &m
 {
     let c = check_view(lens, labels.len(), trace);
     if let Checked::Refused(e) = c {
-        *refusal = tracks::refusal::number(e);
+        *refusal = settings::refusal::number(e);
         return &labels[0..0];
     }
     *refusal = 0;
-    let from = crate::checks::trace_start(lens, trace);
+    let from = crate::shared::trace_start(lens, trace);
     let end = from + lens[trace] as usize;
     &labels[from..end]
 }

@@ -1,8 +1,8 @@
 // Visits: how many accepted stays of a trace have their median at a place of each label.
 use crate::answer::Reported;
 use infostop::model::Infostop;
-use stay::StaySettings;
-use tracks::refusal::Checked;
+use settings::config::Config;
+use settings::refusal::Checked;
 ghost use mathlib.Core.Path.{_≡_};
 ghost use mathlib.Core.Bool.{cond, _||_};
 ghost use mathlib.Core.List.{map};
@@ -10,15 +10,9 @@ ghost use Prim.Native.Nat.{suc, _<_, _≤_};
 ghost use lib.Dec.{leb, ltb};
 ghost use lib.ListN.{length};
 ghost use Rattle.lists.specs.Lists.{upto, overlay};
-ghost use Rattle.distance.specs.Distance.{euclidean};
-ghost use Rattle.stay.specs.Trace.{fixes};
-ghost use Rattle.tracks.specs.declared.refusal.Checked.the-variants.{Accepted};
-ghost use Rattle.tracks.specs.Tracks.{traces, checkReportTracks};
-ghost use Rattle.events.specs.FixLabels.{allMedians};
-ghost use Rattle.reports.specs.Reports.{placeCount};
 ghost use Rattle.reports.specs.Labels.{isLabel};
-ghost use Rattle.reports.specs.Visits.{visitsTo, visitedLabels, traceFixes, VisitsReported};
-ghost use Rattle.reports.specs.Steps.{OneTrace, LabelledStays};
+ghost use Rattle.reports.specs.Visits.{visitsTo, traceVisits, traceFixes, VisitsReported};
+ghost use Rattle.reports.specs.Steps.{OneTrace, LabelledStays, mediansOf, VisitsAsked};
 
 // One more than n, if k is the label l.
 fn one_more_if(k: i32, l: usize, n: u32) -> u32
@@ -67,16 +61,17 @@ fn label_stays(
     times: &[f64],
     marks: &[u8],
     one: &[u32],
-    s: StaySettings,
+    s: Config,
     floats: &mut [f64],
     words: &mut [i32],
 ) -> usize
-    requires { ⌜ (OneTrace (length (now xs)) (length (now ys)) (length (now times)) (length (now marks)) (length (now floats)) (length (now words)) (now one)) × (length (now py) ≡ length (now px)) ⌝ }
-    ensures { λ r. ⌜ LabelledStays (length (now (xs .entry))) (now (px .entry)) (now (py .entry)) (now (pl .entry)) (allMedians euclidean s (traces (now (one .entry)) (fixes (now (xs .entry)) (now (ys .entry)) (now (times .entry)) (now (marks .entry))))) (now (words .exit)) r ⌝ }
+    requires { ⌜ (OneTrace (now xs) (now ys) (now times) (now marks) (now one) (now floats) (now words)) × (length (now py) ≡ length (now px)) ⌝ }
+    ensures { λ r. ⌜ LabelledStays (length (now (xs .entry))) (now (px .entry)) (now (py .entry)) (now (pl .entry))
+        (mediansOf s (now (one .entry)) (now (xs .entry)) (now (ys .entry)) (now (times .entry)) (now (marks .entry))) (now (words .exit)) r ⌝ }
 {
     let n = xs.len();
     let end = 4 * n;
-    let k = events::all_stays(
+    let k = stay::all::all_stays(
         xs,
         ys,
         times,
@@ -91,7 +86,7 @@ fn label_stays(
     let y = 3 * n;
     let y_end = y + k;
     let l_end = n + k;
-    events::stay_labels(
+    cluster::fixes::stay_labels(
         &floats[x..x_end],
         &floats[y..y_end],
         px,
@@ -102,7 +97,7 @@ fn label_stays(
     k
 }
 
-// The visits of a trace to the labels below count, to the front of `out`, by the first n places of the model.
+// The visits of a trace to each label, to the front of `out`. The model has n places and `count` labels.
 fn write_visits(
     m: Infostop,
     n: usize,
@@ -117,20 +112,15 @@ fn write_visits(
     words: &mut [i32],
     out: &mut [u32],
 )
-    requires { ⌜ (checkReportTracks (now xs) (now ys) (now times) (now marks) (now lens) (length (now floats)) (length (now words)) ≡ Accepted) × (trace < length (now lens)) × (n ≡ placeCount m) × (count ≤ length (now out)) ⌝ }
-    ensures { λ _. ⌜ now (out .exit) ≡ overlay (map (visitsTo (visitedLabels m (traceFixes (now (xs .entry)) (now (ys .entry)) (now (times .entry)) (now (marks .entry)) (now (lens .entry)) trace))) (upto count)) (now (out .entry)) ⌝ }
+    requires { ⌜ VisitsAsked m n count (now xs) (now ys) (now times) (now marks) (now lens) trace (length (now floats)) (length (now words)) (length (now out)) ⌝ }
+    ensures { λ _. ⌜ now (out .exit) ≡ overlay (traceVisits m (traceFixes (now (xs .entry)) (now (ys .entry)) (now (times .entry)) (now (marks .entry))
+        (now (lens .entry)) trace)) (now (out .entry)) ⌝ }
 {
-    let at = crate::checks::trace_start(lens, trace);
+    let at = crate::shared::trace_start(lens, trace);
     let len = lens[trace] as usize;
     let end = at + len;
     let next = trace + 1;
     let c = m.config;
-    let s = StaySettings {
-        r1: c.r1,
-        min_size: c.min_size,
-        min_staying_time: c.min_staying_time,
-        max_time_between: c.max_time_between,
-    };
     let px = m.xs;
     let py = m.ys;
     let pl = m.labels;
@@ -143,7 +133,7 @@ fn write_visits(
         &times[at..end],
         &marks[at..end],
         &lens[trace..next],
-        s,
+        c,
         floats,
         words,
     );
@@ -175,17 +165,18 @@ pub fn visits(
     words: &mut [i32],
     out: &mut [u32],
 ) -> Reported
-    ensures { λ r. ⌜ VisitsReported m (now (xs .entry)) (now (ys .entry)) (now (times .entry)) (now (marks .entry)) (now (lens .entry)) trace (now (floats .entry)) (now (words .entry)) (now (out .entry)) r (now (floats .exit)) (now (words .exit)) (now (out .exit)) ⌝ }
+    ensures { λ r. ⌜ VisitsReported m (now (xs .entry)) (now (ys .entry)) (now (times .entry)) (now (marks .entry)) (now (lens .entry)) trace
+        (now (floats .entry)) (now (words .entry)) (now (out .entry)) r (now (floats .exit)) (now (words .exit)) (now (out .exit)) ⌝ }
 {
-    let a = tracks::check_report_tracks(xs, ys, times, marks, lens, floats.len(), words.len());
+    let a = checks::check_report_tracks(xs, ys, times, marks, lens, floats.len(), words.len());
     if let Checked::Refused(e) = a {
         return Reported::Refused(e);
     }
-    let n = crate::checks::at_most_512(m.count);
+    let n = crate::shared::at_most_512(m.count);
     let labels = m.labels;
     let count = crate::labels::label_count(&labels[0..n]);
     let lacking = lacks(lens.len(), trace, out.len(), count);
-    let b = crate::checks::check_model(m.fitted, lacking);
+    let b = crate::shared::check_model(m.fitted, lacking);
     if let Checked::Refused(e) = b {
         return Reported::Refused(e);
     }

@@ -1,5 +1,3 @@
 -- Lemmas that belong to no one function.
-pub mod Items
-pub mod Stores
 pub mod Visits
 pub mod Permutation

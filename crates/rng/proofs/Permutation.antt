@@ -1,4 +1,4 @@
--- Every order of visiting is a permutation of the nodes. Assumes nothing.
+-- Every order of visiting is a permutation of the nodes.
 use mathlib.Core.Path.{refl, _∙_}
 use mathlib.Core.List.{List, [], _∷_, List·Permᴰ, List·Permᴰ·nil, List·Permᴰ·cons, List·Permᴰ·swap, List·Permᴰ·trans, Permᴰ·refl, Perm}
 use mathlib.Core.Logic.{inl, inr}

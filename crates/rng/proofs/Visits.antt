@@ -1,4 +1,4 @@
--- The order of visiting: how the loops go on, and that every item is a node. Assumes nothing.
+-- The order of visiting: how the loops go on, and that every item is a node.
 use mathlib.Core.Path.{_≡_, refl, _∙_}
 use mathlib.Core.List.{List}
 use Prim.Native.Nat.{ℕ, zero, suc, _+_, _-_, _<_, _≤_}
@@ -8,7 +8,8 @@ use native.Mathlib.Numerals.{add-one}
 use native.Mathlib.Omega.{arith}
 use lib.ListN.{length, getD, set, length-set}
 use lib.Seq.{getD-set-same, getD-set-other}
-use Rattle.rng.specs.Rng.{nextU64, genRange, swap, shuffleFrom, shuffle, Below}
+use Rattle.rng.specs.Rng.{nextU64, genRange, swap, shuffleFrom, shuffle}
+use Rattle.rng.specs.Steps.{Below}
 use Rattle.lists.specs.Lists.{from, upto}
 use Rattle.lists.proofs.Upto.{length-upto, getD-upto}
 

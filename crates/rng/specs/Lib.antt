@@ -1,2 +1,3 @@
 pub mod Rng
 pub mod Facts
+pub mod Steps

@@ -1,5 +1,5 @@
 -- The generator of the trials (xorshift64) and the order of visiting, as `Rng64` of the Rust has them. Definitions only.
-use Prim.Native.Nat.{ℕ, zero, suc, _-_, _*_, _/_, _%_, _^_, _<_}
+use Prim.Native.Nat.{ℕ, zero, suc, _-_, _*_, _/_, _%_, _^_}
 use mathlib.Core.List.{List}
 use lib.Bits.{bitXor, bitOr}
 use lib.ListN.{length, getD, set}
@@ -40,7 +40,3 @@ shuffle r l = shuffleFrom (length l - 1) r l
 -- The order in which a round visits n nodes, by the generator's state r.
 abbrev pub order : ℕ → ℕ → Shuffled
 order r n = shuffle r (upto n)
-
--- Every item is below b.
-unfoldable pub Below : ℕ → List ℕ → Type 0
-Below b l = (k : ℕ) → k < length l → getD l k 0 < b

@@ -1,10 +1,10 @@
 // The generator of the trials (xorshift64) and the order of visiting.
 // A state is a u64 that goes in by value; the next state is the generator's output.
 ghost use mathlib.Core.Path.{_≡_};
-ghost use Prim.Native.Nat.{ℕ, _+_, _-_, _*_, _%_, _<_, _≤_};
-ghost use lib.ListN.{length, getD};
+ghost use Prim.Native.Nat.{_+_, _-_, _%_, _<_, _≤_};
+ghost use lib.ListN.{length};
 ghost use Rattle.lists.specs.Lists.{upto};
-ghost use Rattle.rng.specs.Rng.{seeded, nextU64, genRange, swap, shuffle, order, Shuffled};
+ghost use Rattle.rng.specs.Rng.{seeded, nextU64, genRange, swap, shuffle, order};
 
 // The first state: the seed with its lowest bit set, so that it is not 0.
 pub fn seeded(seed: u64) -> u64

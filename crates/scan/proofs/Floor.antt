@@ -1,4 +1,4 @@
--- A pass over a row, neighbour by neighbour. Assumes nothing.
+-- A pass over a row, neighbour by neighbour.
 use mathlib.Core.Path.{_≡_}
 use mathlib.Core.Bool.{true, false}
 use mathlib.Core.List.{List}
@@ -9,7 +9,7 @@ use native.Mathlib.Omega.{arith}
 use lib.ListN.{length, getD}
 use lib.Ieee.{Float, nan, lt}
 use Rattle.float.specs.Binary64.{zero64}
-use Rattle.scan.specs.Scan.{Next}
+use Rattle.scan.specs.Steps.{Next}
 use Rattle.lists.proofs.Tests.{clash}
 
 module _ (part : List ℕ) (ws : List Float) (floor v r : ℕ) where

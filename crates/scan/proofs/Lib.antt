@@ -1,3 +1,3 @@
 -- Lemmas that belong to no one function.
 pub mod Floor
-pub mod Rising
+pub mod Candidates

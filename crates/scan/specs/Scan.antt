@@ -1,26 +1,18 @@
 -- The scan of a node over its neighbours' groups, and the isolation test. Definitions only.
-use mathlib.Core.Path.{_≡_}
-use Prim.Native.Nat.{ℕ, _+_, _<_, _≤_}
-use mathlib.Core.Bool.{true, cond}
+use Prim.Native.Nat.{ℕ, _+_}
+use mathlib.Core.Bool.{cond}
 use mathlib.Core.List.{List, [], _∷_}
 use lib.Dec.{ltb, eqb}
-use lib.ListN.{length, getD}
-use lib.Ieee.{Float, binary64, nan, neg, lt, ofBits}
+use lib.ListN.{getD}
+use lib.Ieee.{Float, binary64, neg, lt, ofBits}
 use Rattle.float.specs.Binary64.{sub64, zero64}
 use Rattle.map_state.specs.Network.{Network, row}
 use Rattle.map_state.specs.MapState.{MapState, deltaMove}
-use Rattle.scan.specs.declared.Scan.{Scan}
-use Rattle.scan.specs.declared.Scan.the-variants.{Stay, Move}
 
 -- docs/RULES.md: a scan answers either no move, or the group and its change.
 pub data Answer : Type 0 where
   noMove : Answer
   move : ℕ → Float → Answer
-
--- What each case of the code's enum answers.
-unfoldable pub answerOf : Scan → Answer
-answerOf Stay = noMove
-answerOf (Move g change) = move g change
 
 -- The margin, 1e-15.
 abbrev pub margin : Float
@@ -28,16 +20,16 @@ margin = ofBits binary64 0x3CD2_03AF_9EE7_5616
 
 -- ---- the scan
 
--- g put into a rising list without repeats.
-unfoldable pub place : ℕ → List ℕ → List ℕ
-place g [] = g ∷ []
-place g (h ∷ hs) = let r = h ∷ place g hs in cond (ltb g h) (g ∷ h ∷ hs) (cond (eqb g h) (h ∷ hs) r)
+-- Group g inserted into a rising list without repeats.
+unfoldable pub insertGroup : ℕ → List ℕ → List ℕ
+insertGroup g [] = g ∷ []
+insertGroup g (h ∷ hs) = let r = h ∷ insertGroup g hs in cond (ltb g h) (g ∷ h ∷ hs) (cond (eqb g h) (h ∷ hs) r)
 
 -- The groups of a node's neighbours, in rising internal number.
 unfoldable pub candidates : List ℕ → List Float → List ℕ
 candidates [] ws = []
 candidates (p ∷ ps) [] = []
-candidates (p ∷ ps) (w ∷ ws) = let r = candidates ps ws in cond (lt zero64 w) (place p r) r
+candidates (p ∷ ps) (w ∷ ws) = let r = candidates ps ws in cond (lt zero64 w) (insertGroup p r) r
 
 -- The change to beat (`best_delta`).
 unfoldable pub bestDelta : Answer → Float
@@ -77,12 +69,3 @@ isolate net s u =
     let h = nextFreeModule (s .partition) in
     let change = deltaMove net s u h in
     cond (lt change (neg margin)) (move h change) noMove
-
--- ---- a pass over a row
-
--- Of the neighbours below k whose group is at or above `floor`, r is one of the lowest group; past the end where there is none.
-pub record Next (part : List ℕ) (ws : List Float) (floor k r : ℕ) : Type 0 where
-  pub end : r ≤ length part
-  pub near : r < length part → lt zero64 (getD ws r nan) ≡ true
-  pub up : r < length part → floor ≤ getD part r 0
-  pub least : (v : ℕ) → v < k → lt zero64 (getD ws v nan) ≡ true → floor ≤ getD part v 0 → (r < length part) × (getD part r 0 ≤ getD part v 0)

@@ -3,14 +3,13 @@
 // The slices are those of crate `map_state`.
 use map_state::ModuleStats;
 ghost use mathlib.Core.Path.{_≡_};
-ghost use Prim.Native.Nat.{ℕ, _+_, _-_, _*_, _<_, _≤_};
+ghost use Prim.Native.Nat.{_+_, _-_, _*_, _<_};
 ghost use mathlib.Core.Bool.{cond};
 ghost use lib.Dec.{ltb};
-ghost use lib.ListN.{length, getD};
-ghost use lib.Ieee.{Float};
-ghost use Rattle.map_state.specs.MapState.{statsAt};
-ghost use Rattle.map_state.specs.Arrays.{netOf, stateOf, Firsts, Sized};
-ghost use Rattle.scan.specs.Scan.{answerOf, bestDelta, better, consider, scan, highestFrom, nextFreeModule, isolate, Next};
+ghost use lib.ListN.{length};
+ghost use Rattle.map_state.specs.Steps.{netOf, stateOf, AtNode};
+ghost use Rattle.scan.specs.Scan.{bestDelta, better, scan, highestFrom, nextFreeModule, isolate};
+ghost use Rattle.scan.specs.Steps.{answerOf, Next, AtPair, Considered, Testable};
 
 // No move, or the group to move to and the change of codelength.
 pub enum Scan {
@@ -43,12 +42,12 @@ fn lower_candidate(partition: &[u32], row: &[f64], floor: usize, r: usize, v: us
     ensures { λ q. ⌜ Next (now (partition .entry)) (now (row .entry)) floor (v + 1) q ⌝ }
 {
     if 0.0 < row[v] {
-        let x = map_state::wide(partition[v]);
+        let x = lists::wide(partition[v]);
         if x < floor {
             return r;
         }
         if r < partition.len() {
-            let y = map_state::wide(partition[r]);
+            let y = lists::wide(partition[r]);
             if x < y {
                 return v;
             }
@@ -89,8 +88,8 @@ fn consider(
     v: usize,
     a: Scan,
 ) -> Scan
-    requires { ⌜ (Sized (now table) stride (now strength) (now partition) (now first) (now exits) (now strengths)) × (u < length (now partition)) × (v < length (now partition)) × (Firsts (now partition) (now first)) × (src ≡ statsAt (now partition) (now exits) (now strengths) (getD (now partition) u 0)) ⌝ }
-    ensures { λ r. ⌜ answerOf r ≡ consider (netOf (now (table .entry)) stride (now (strength .entry)) d) (stateOf (now (partition .entry)) (now (exits .entry)) (now (strengths .entry)) q) u (answerOf a) (getD (now (partition .entry)) v 0) ⌝ }
+    requires { ⌜ AtPair (now table) stride (now strength) (now partition) (now first) (now exits) (now strengths) u src v ⌝ }
+    ensures { λ r. ⌜ Considered (netOf (now (table .entry)) stride (now (strength .entry)) d) (now (partition .entry)) (now (exits .entry)) (now (strengths .entry)) q u v a r ⌝ }
 {
     let h = partition[v];
     if h == partition[u] {
@@ -117,7 +116,7 @@ pub fn scan_node(
     q: f64,
     u: usize,
 ) -> Scan
-    requires { ⌜ (Sized (now table) stride (now strength) (now partition) (now first) (now exits) (now strengths)) × (u < length (now partition)) × (Firsts (now partition) (now first)) ⌝ }
+    requires { ⌜ AtNode (now table) stride (now strength) (now partition) (now first) (now exits) (now strengths) u ⌝ }
     ensures { λ r. ⌜ answerOf r ≡ scan (netOf (now (table .entry)) stride (now (strength .entry)) d) (stateOf (now (partition .entry)) (now (exits .entry)) (now (strengths .entry)) q) u ⌝ }
 {
     let s = u * stride;
@@ -142,7 +141,7 @@ pub fn scan_node(
             v,
             a,
         );
-        floor = map_state::wide(partition[v]) + 1;
+        floor = lists::wide(partition[v]) + 1;
         v = next_candidate(partition, &table[s..e], floor);
     }
     a
@@ -189,7 +188,7 @@ pub fn isolate(
     q: f64,
     u: usize,
 ) -> Scan
-    requires { ⌜ (Sized (now table) stride (now strength) (now partition) (now first) (now exits) (now strengths)) × (u < length (now partition)) × (Firsts (now partition) (now first)) × (highestFrom 0 (now partition) < 1000000) ⌝ }
+    requires { ⌜ Testable (now table) stride (now strength) (now partition) (now first) (now exits) (now strengths) u ⌝ }
     ensures { λ r. ⌜ answerOf r ≡ isolate (netOf (now (table .entry)) stride (now (strength .entry)) d) (stateOf (now (partition .entry)) (now (exits .entry)) (now (strengths .entry)) q) u ⌝ }
 {
     let h = next_free_module(partition);

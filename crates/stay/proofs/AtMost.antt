@@ -1,15 +1,12 @@
--- `atMost` orders all values: it is transitive, and of two values one is at most the other. Assumes nothing.
+-- `atMost` orders all values: it is transitive, and of two values one is at most the other.
 use mathlib.Core.Path.{_≡_, refl, sym, _∙_}
 use mathlib.Core.Logic.{_⊎_, inl, inr}
 use mathlib.Core.Bool.{Bool, true, false, not, _||_, true≢false}
 use lib.Dec.{T}
 use lib.Ieee.{Float, le, isNan}
+use Rattle.lists.proofs.Tests.{or-true}
 use Rattle.float.proofs.Order.{le-trans, le-total, le-numbers}
 use Rattle.stay.specs.Ordered.{atMost}
-
-or-last : (a b : Bool) → b ≡ true → (a || b) ≡ true
-or-last true b e = refl
-or-last false b e = e
 
 or-none : (a b : Bool) → b ≡ false → (a || b) ≡ a
 or-none true b e = refl
@@ -26,7 +23,7 @@ is-number false h = refl
 -- NaN is above all
 pub nan-above : (x e : Float) → isNan e ≡ true → atMost x e ≡ true
 unfolding atMost
-nan-above x e h = or-last (le x e) (isNan e) h
+nan-above x e h = or-true (le x e) (isNan e) h
 
 -- against a number the test is `<=`
 pub atMost-number : (x e : Float) → isNan e ≡ false → atMost x e ≡ le x e

@@ -1,23 +1,26 @@
--- The groups of a trace: they are the trace, cut; and how they go on with the next fix. Assumes nothing.
+-- The groups of a trace: they are the trace, cut; and how they go on with the next fix.
 use mathlib.Core.Path.{_≡_, refl, sym, ap, _∙_, subst}
 use mathlib.Core.Bool.{Bool, true, false, cond}
-use mathlib.Core.List.{List, [], _∷_, _++_, append-assoc}
-use Prim.Native.Nat.{ℕ, suc, _<_, _≤_}
+use mathlib.Core.Option.{Option, none}
+use mathlib.Core.List.{List, [], _∷_, _++_, map, append-assoc}
+use Prim.Native.Nat.{ℕ, suc, _-_, _<_, _≤_}
 use native.Mathlib.Nat.{le-trans}
 use native.Mathlib.Omega.{arith}
-use lib.ListN.{length, length-append}
+use lib.ListN.{length, getD, length-append, length-map}
+use lib.Seq.{getD-at}
 use lib.Ieee.{Float}
+use Rattle.lists.proofs.Maps.{map-append}
 use Rattle.distance.specs.declared.Point.{Point}
-use Rattle.stay.specs.declared.StaySettings.{StaySettings}
-use Rattle.stay.specs.Trace.{Fix, timed}
-use Rattle.stay.specs.Stays.{middle, joins, groupsFrom, groups, isStay, mediansOf, stayMedians}
+use Rattle.settings.specs.declared.config.Config.{Config}
+use Rattle.trace.specs.Trace.{Fix, timed}
+use Rattle.stay.specs.Stays.{middle, joins, groupsFrom, groups, isStay, mediansOf, stayMedians, firstTime, lastTime}
 
 -- the groups' fixes, one after the other
 abbrev pub concat : List (List Fix) → List Fix
 concat [] = []
 concat (g ∷ gs) = g ++ concat gs
 
-module _ (dist : Point → Point → Float) (s : StaySettings) where
+module _ (dist : Point → Point → Float) (s : Config) where
   pub groups-join : (t : Bool) (g : List Fix) (f : Fix) (fs : List Fix) → joins dist s t g f ≡ true → groupsFrom dist s t g (f ∷ fs) ≡ groupsFrom dist s t (g ++ (f ∷ [])) fs
   unfolding groupsFrom
   groups-join t g f fs h = rw (h, groupsFrom)
@@ -79,3 +82,25 @@ module _ (dist : Point → Point → Float) (s : StaySettings) where
   pub medians-few : (fs : List Fix) → length (stayMedians dist s fs) ≤ length fs
   unfolding stayMedians
   medians-few fs = le-trans (medians-of (timed fs) (groups dist s fs)) (groups-few fs)
+
+-- ---- the first and the last time of a group
+
+pub map-x : (g : List Fix) (f : Fix) → map (λ (h : Fix). h .at .x) (g ++ (f ∷ [])) ≡ map (λ (h : Fix). h .at .x) g ++ (f .at .x ∷ [])
+map-x g f = map-append (λ (h : Fix). h .at .x) g (f ∷ [])
+
+pub map-y : (g : List Fix) (f : Fix) → map (λ (h : Fix). h .at .y) (g ++ (f ∷ [])) ≡ map (λ (h : Fix). h .at .y) g ++ (f .at .y ∷ [])
+map-y g f = map-append (λ (h : Fix). h .at .y) g (f ∷ [])
+
+pub first-more : (g : List Fix) (f : Fix) → 0 < length g → firstTime (g ++ (f ∷ [])) ≡ firstTime g
+unfolding firstTime
+first-more [] f h = absurd (omega arith)
+first-more (e ∷ g) f h = refl
+
+pub last-more : (g : List Fix) (f : Fix) → lastTime (g ++ (f ∷ [])) ≡ f .time
+unfolding lastTime
+last-more g f =
+    let times : List Fix → List (Option Float) = map (λ (h : Fix). h .time) in
+    let n : length (g ++ (f ∷ [])) - 1 ≡ length g = simp length-append (omega arith) in
+    ap (λ (k : ℕ). getD (times (g ++ (f ∷ []))) k none) n
+    ∙ ap (λ (l : List (Option Float)). getD l (length g) none) (map-append (λ (h : Fix). h .time) g (f ∷ []))
+    ∙ getD-at (times g) (f .time) [] none (length g) (length-map g (λ (h : Fix). h .time))

@@ -1,21 +1,24 @@
 -- The stay numbers line up with the groups: each fix has one, it is -1 exactly where the fix lies in no accepted stay, and else it is the
--- place of its stay's median. Assumes nothing.
+-- place of its stay's median.
 use mathlib.Core.Path.{_≡_, refl, sym, ap, ap₂, _∙_, subst}
 use mathlib.Core.Logic.{_⊎_, inl, inr}
 use mathlib.Core.Bool.{Bool, true, false, cond}
 use mathlib.Core.List.{List, [], _∷_, _++_, map}
 use mathlib.Core.Option.{Option, none, some}
-use Prim.Native.Nat.{ℕ, zero, suc, _+_, _-_, _<_}
+use Prim.Native.Nat.{ℕ, zero, suc, _+_, _<_}
 use native.Mathlib.Omega.{arith}
 use native.Mathlib.Nat.{add-zero}
 use lib.IntN.{ℤ, pos, negsuc}
 use lib.ListN.{length, getD, drop, replicate, length-append, length-replicate}
 use lib.Seq.{getD-drop, drop-drop}
 use lib.Ieee.{Float, nan}
+use Rattle.lists.proofs.Maps.{map-append}
+use Rattle.lists.specs.Lists.{minusOne}
 use Rattle.distance.specs.declared.Point.{Point}
-use Rattle.stay.specs.declared.StaySettings.{StaySettings}
-use Rattle.stay.specs.Trace.{Fix, timed}
-use Rattle.stay.specs.Stays.{middle, isStay, groups, mediansOf, eventNumber, eventsFrom, liesIn, stayMedians, eventMap, lies}
+use Rattle.settings.specs.declared.config.Config.{Config}
+use Rattle.trace.specs.Trace.{Fix, timed}
+use Rattle.stay.specs.Stays.{middle, isStay, groups, mediansOf, fixMediansOf, stayMedians, fixMedians}
+use Rattle.stay.specs.StepsEvents.{eventNumber, eventsFrom, eventMap}
 use Rattle.stay.proofs.Groups.{concat, concat-groups}
 
 abbrev pub noPoint : Point
@@ -26,14 +29,7 @@ abbrev pub medianAt : List Point → ℤ → Option Point
 medianAt ps (pos n) = some (getD ps n noPoint)
 medianAt ps (negsuc n) = none
 
-abbrev pub minusOne : ℤ
-minusOne = negsuc 0
-
 -- ---- lists
-
-map-append : {A B : Type 0} (f : A → B) (l r : List A) → map f (l ++ r) ≡ map f l ++ map f r
-map-append f [] r = refl
-map-append {A} {B} f (x ∷ l) r = ap (λ (t : List B). f x ∷ t) (map-append f l r)
 
 map-replicate : {A B : Type 0} (f : A → B) (n : ℕ) (x : A) → map f (replicate n x) ≡ replicate n (f x)
 map-replicate f zero x = refl
@@ -57,7 +53,7 @@ after-first {A} k l r x e =
     let one : suc k ≡ k + 1 = omega arith in
     ap (λ (n : ℕ). drop n l) one ∙ sym (drop-drop 1 k l) ∙ ap (drop 1) e
 
-module _ (dist : Point → Point → Float) (s : StaySettings) where
+module _ (dist : Point → Point → Float) (s : Config) where
   module _ (t : Bool) where
     -- ---- one number a fix
 
@@ -66,15 +62,15 @@ module _ (dist : Point → Point → Float) (s : StaySettings) where
     events-length k [] = refl
     events-length k (g ∷ gs) = simp (length-append, length-replicate) (ap (λ (n : ℕ). length g + n) (events-length (cond (isStay s t g) (suc k) k) gs))
 
-    lies-length : (gs : List (List Fix)) → length (liesIn s t gs) ≡ length (concat gs)
-    unfolding liesIn
+    lies-length : (gs : List (List Fix)) → length (fixMediansOf s t gs) ≡ length (concat gs)
+    unfolding fixMediansOf
     lies-length [] = refl
     lies-length (g ∷ gs) = simp (length-append, length-replicate) (ap (λ (n : ℕ). length g + n) (lies-length gs))
 
     -- ---- a number is that of the median the fix lies at; `all` has the medians from place k on
 
-    events-lie : (k : ℕ) (gs : List (List Fix)) (all rest : List Point) → drop k all ≡ mediansOf s t gs ++ rest → map (medianAt all) (eventsFrom s t k gs) ≡ liesIn s t gs
-    unfolding eventsFrom liesIn mediansOf eventNumber
+    events-lie : (k : ℕ) (gs : List (List Fix)) (all rest : List Point) → drop k all ≡ mediansOf s t gs ++ rest → map (medianAt all) (eventsFrom s t k gs) ≡ fixMediansOf s t gs
+    unfolding eventsFrom fixMediansOf mediansOf eventNumber
     events-lie k [] all rest e = refl
     events-lie k (g ∷ gs) all rest e =
         map-append (medianAt all) (replicate (length g) (eventNumber (isStay s t g) k)) (eventsFrom s t (cond (isStay s t g) (suc k) k) gs)
@@ -82,10 +78,10 @@ module _ (dist : Point → Point → Float) (s : StaySettings) where
         ∙ go (isStay s t g) e (events-lie (suc k) gs all rest) (events-lie k gs all rest)
       where
         go : (b : Bool) → drop k all ≡ cond b (middle g ∷ mediansOf s t gs) (mediansOf s t gs) ++ rest
-            → (drop (suc k) all ≡ mediansOf s t gs ++ rest → map (medianAt all) (eventsFrom s t (suc k) gs) ≡ liesIn s t gs)
-            → (drop k all ≡ mediansOf s t gs ++ rest → map (medianAt all) (eventsFrom s t k gs) ≡ liesIn s t gs)
+            → (drop (suc k) all ≡ mediansOf s t gs ++ rest → map (medianAt all) (eventsFrom s t (suc k) gs) ≡ fixMediansOf s t gs)
+            → (drop k all ≡ mediansOf s t gs ++ rest → map (medianAt all) (eventsFrom s t k gs) ≡ fixMediansOf s t gs)
             → replicate (length g) (medianAt all (eventNumber b k)) ++ map (medianAt all) (eventsFrom s t (cond b (suc k) k) gs)
-            ≡ replicate (length g) (cond b (some (middle g)) none) ++ liesIn s t gs
+            ≡ replicate (length g) (cond b (some (middle g)) none) ++ fixMediansOf s t gs
         go true h a b =
             ap₂ (λ (p : Point) (l : List (Option Point)). replicate (length g) (some p) ++ l) (at-first k all (mediansOf s t gs ++ rest) (middle g) noPoint h)
             (a (after-first k all (mediansOf s t gs ++ rest) (middle g) h))
@@ -116,12 +112,12 @@ module _ (dist : Point → Point → Float) (s : StaySettings) where
   unfolding eventMap
   event-map-length k fs = events-length (timed fs) k (groups dist s fs) ∙ ap length (concat-groups dist s fs)
 
-  pub lies-one-each : (fs : List Fix) → length (lies dist s fs) ≡ length fs
-  unfolding lies
+  pub lies-one-each : (fs : List Fix) → length (fixMedians dist s fs) ≡ length fs
+  unfolding fixMedians
   lies-one-each fs = lies-length (timed fs) (groups dist s fs) ∙ ap length (concat-groups dist s fs)
 
-  pub event-map-lies : (k : ℕ) (fs : List Fix) (all rest : List Point) → drop k all ≡ stayMedians dist s fs ++ rest → map (medianAt all) (eventMap dist s k fs) ≡ lies dist s fs
-  unfolding eventMap stayMedians lies
+  pub event-map-lies : (k : ℕ) (fs : List Fix) (all rest : List Point) → drop k all ≡ stayMedians dist s fs ++ rest → map (medianAt all) (eventMap dist s k fs) ≡ fixMedians dist s fs
+  unfolding eventMap stayMedians fixMedians
   event-map-lies k fs all rest e = events-lie (timed fs) k (groups dist s fs) all rest e
 
   pub event-map-number : (k : ℕ) (fs : List Fix) (i : ℕ) → Number (k + length (stayMedians dist s fs)) (getD (eventMap dist s k fs) i minusOne)

@@ -1,4 +1,4 @@
--- The medians of stays whose fixes are within the coordinate limit are within it, so the distance's bound holds of them too. Assumes nothing.
+-- The medians of stays whose fixes are within the coordinate limit are within it, so the distance's bound holds of them too.
 use mathlib.Core.Path.{_≡_, refl, sym, ap₂, subst}
 use mathlib.Core.Bool.{Bool, true, false, _&&_, cond}
 use mathlib.Core.List.{List, [], _∷_, _++_, map}
@@ -10,9 +10,9 @@ use Rattle.lists.proofs.Tests.{and-left, and-right}
 use Rattle.distance.specs.declared.Point.{Point}
 use Rattle.distance.specs.Limit.{limit, within, inLimit}
 use Rattle.distance.proofs.Bound.{half-sum}
-use Rattle.stay.specs.declared.StaySettings.{StaySettings}
+use Rattle.settings.specs.declared.config.Config.{Config}
 use Rattle.stay.specs.Ordered.{atMost, insertOrdered, orderedFrom, ordered, median}
-use Rattle.stay.specs.Trace.{Fix, timed}
+use Rattle.trace.specs.Trace.{Fix, timed}
 use Rattle.stay.specs.Stays.{middle, joins, isStay, groupsFrom, groups, mediansOf, stayMedians}
 use Rattle.stay.proofs.Ordered.{insert-cons, insert-length}
 use Rattle.stay.proofs.Groups.{groups-join, groups-close, groups-end}
@@ -92,7 +92,7 @@ middle-within g a =
     (median-within (ordered x) (ordered-some x (omega (arith, a .0, length-map g (λ (f : Fix). f .at .x)))) (ordered-from-within [] x tt (xs-within g (a .1))))
     (median-within (ordered y) (ordered-some y (omega (arith, a .0, length-map g (λ (f : Fix). f .at .y)))) (ordered-from-within [] y tt (ys-within g (a .1))))
 
-module _ (dist : Point → Point → Float) (s : StaySettings) where
+module _ (dist : Point → Point → Float) (s : Config) where
   groups-within : (t : Bool) (g fs : List Fix) → GroupIn g → Each FixIn fs → Each GroupIn (groupsFrom dist s t g fs)
   groups-within t g [] a b = subst (Each GroupIn) (sym (groups-end dist s t g)) (a, tt)
   groups-within t g (f ∷ fs) a b =

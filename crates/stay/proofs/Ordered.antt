@@ -1,41 +1,42 @@
--- Ordered insertion: a list in order stays in order, and in such a list the place of an element can be found by halving. Assumes nothing.
+-- Ordered insertion: a list in order stays in order, and in such a list the place of an element can be found by halving.
 use mathlib.Core.Path.{_≡_, refl, sym, ap, ap₂, _∙_, subst}
 use mathlib.Core.Bool.{Bool, true, false, _&&_, cond, true≢false}
 use mathlib.Core.List.{List, [], _∷_, _++_}
-use Prim.Native.Nat.{ℕ, zero, suc, _+_, _-_, _≤_, _<_}
+use Prim.Native.Nat.{ℕ, zero, suc, _+_, _≤_, _<_}
 use native.Mathlib.Nat.{le-of-suc-le-suc}
 use native.Mathlib.Omega.{arith}
 use lib.ListN.{length, take, drop, getD, length-append, take-append-drop}
 use lib.Ieee.{Float, nan, inf, fin, isNan, ne, eq, add, mul, ofBits}
 use lib.Ieee.Compare.{differs-from-itself}
 use Rattle.lists.proofs.Tests.{and-left, and-right}
-use Rattle.stay.specs.Ordered.{atMost, atMostFirst, inOrder, position, insertOrdered, orderedFrom, ordered, median}
+use Rattle.stay.specs.Ordered.{atMost, insertionPoint, insertOrdered, orderedFrom, ordered, median}
+use Rattle.stay.specs.StepsOrdered.{atMostFirst, inOrder}
 use Rattle.stay.proofs.AtMost.{nan-above, atMost-trans, atMost-other}
 
 -- ---- what stands where
 
-pub position-le : (e : Float) (xs : List Float) → position e xs ≤ length xs
-unfolding position
+pub position-le : (e : Float) (xs : List Float) → insertionPoint e xs ≤ length xs
+unfolding insertionPoint
 position-le e [] = omega arith
 position-le e (x ∷ xs) = go (atMost x e) (position-le e xs)
   where
-    go : (t : Bool) → position e xs ≤ length xs → cond t (suc (position e xs)) 0 ≤ suc (length xs)
+    go : (t : Bool) → insertionPoint e xs ≤ length xs → cond t (suc (insertionPoint e xs)) 0 ≤ suc (length xs)
     go true h = omega arith
     go false h = omega arith
 
 pub insert-length : (e : Float) (l : List Float) → length (insertOrdered e l) ≡ suc (length l)
 unfolding insertOrdered
 insert-length e l =
-    let q : length (take (position e l) l ++ drop (position e l) l) ≡ length l = ap length (take-append-drop (position e l) l) in
+    let q : length (take (insertionPoint e l) l ++ drop (insertionPoint e l) l) ≡ length l = ap length (take-append-drop (insertionPoint e l) l) in
     simp length-append (omega (arith, simp length-append at q))
 
 pub insert-cons : (e x : Float) (xs : List Float) → insertOrdered e (x ∷ xs) ≡ cond (atMost x e) (x ∷ insertOrdered e xs) (e ∷ x ∷ xs)
-unfolding insertOrdered position
+unfolding insertOrdered insertionPoint
 insert-cons e x xs = go (atMost x e)
   where
     go : (t : Bool)
-        → take (cond t (suc (position e xs)) 0) (x ∷ xs) ++ (e ∷ drop (cond t (suc (position e xs)) 0) (x ∷ xs))
-        ≡ cond t (x ∷ (take (position e xs) xs ++ (e ∷ drop (position e xs) xs))) (e ∷ x ∷ xs)
+        → take (cond t (suc (insertionPoint e xs)) 0) (x ∷ xs) ++ (e ∷ drop (cond t (suc (insertionPoint e xs)) 0) (x ∷ xs))
+        ≡ cond t (x ∷ (take (insertionPoint e xs) xs ++ (e ∷ drop (insertionPoint e xs) xs))) (e ∷ x ∷ xs)
     go true = refl
     go false = refl
 
@@ -114,21 +115,21 @@ after e xs h j k l m f = go (atMost (getD xs k nan) e) refl
     go false p = refl
 
 pub position-is : (e : Float) (xs : List Float) (p : ℕ) → p ≤ length xs → ((k : ℕ) → k < p → atMost (getD xs k nan) e ≡ true)
-    → ((k : ℕ) → p ≤ k → k < length xs → atMost (getD xs k nan) e ≡ false) → p ≡ position e xs
-unfolding position
+    → ((k : ℕ) → p ≤ k → k < length xs → atMost (getD xs k nan) e ≡ false) → p ≡ insertionPoint e xs
+unfolding insertionPoint
 position-is e [] p h a b = omega arith
-position-is e (x ∷ xs) zero h a b = sym (ap (λ (t : Bool). cond t (suc (position e xs)) 0) (b 0 (omega arith) (omega arith)))
+position-is e (x ∷ xs) zero h a b = sym (ap (λ (t : Bool). cond t (suc (insertionPoint e xs)) 0) (b 0 (omega arith) (omega arith)))
 position-is e (x ∷ xs) (suc q) h a b =
     ap suc (position-is e xs q (le-of-suc-le-suc h) (λ k g. a (suc k) (omega arith)) (λ k g l. b (suc k) (omega arith) (omega arith)))
-    ∙ sym (ap (λ (t : Bool). cond t (suc (position e xs)) 0) (a 0 (omega arith)))
+    ∙ sym (ap (λ (t : Bool). cond t (suc (insertionPoint e xs)) 0) (a 0 (omega arith)))
 
 -- ---- the tests of the code
 
 -- NaN goes last
-pub nan-last : (e : Float) (xs : List Float) → isNan e ≡ true → length xs ≡ position e xs
-unfolding position
+pub nan-last : (e : Float) (xs : List Float) → isNan e ≡ true → length xs ≡ insertionPoint e xs
+unfolding insertionPoint
 nan-last e [] h = refl
-nan-last e (x ∷ xs) h = ap suc (nan-last e xs h) ∙ sym (ap (λ (t : Bool). cond t (suc (position e xs)) 0) (nan-above x e h))
+nan-last e (x ∷ xs) h = ap suc (nan-last e xs h) ∙ sym (ap (λ (t : Bool). cond t (suc (insertionPoint e xs)) 0) (nan-above x e h))
 
 pub differs-nan : (e : Float) → ne e e ≡ true → isNan e ≡ true
 unfolding isNan

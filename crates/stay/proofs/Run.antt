@@ -1,4 +1,4 @@
--- The run of the steps over a trace ends in the state that the definition of stays gives. Assumes nothing.
+-- The run of the steps over a trace ends in the state that the definition of stays gives.
 use mathlib.Core.Path.{_≡_, refl, sym, ap, ap₂, _∙_, subst}
 use mathlib.Core.Bool.{Bool, true, false, not, _&&_, _||_}
 use mathlib.Core.List.{List, [], _∷_, _++_, map, append-assoc, append-nil}
@@ -12,15 +12,16 @@ use lib.ListN.{length, getD, drop, replicate, length-append, drop-of-length-le}
 use lib.Seq.{sets, drop-cons}
 use lib.Ieee.{Float, nan, le}
 use Rattle.distance.specs.declared.Point.{Point}
-use Rattle.stay.specs.declared.StaySettings.{StaySettings}
+use Rattle.settings.specs.declared.config.Config.{Config}
 use Rattle.stay.specs.Ordered.{ordered, insertOrdered, median}
-use Rattle.stay.specs.Trace.{Fix}
-use Rattle.stay.specs.Stays.{middle, since, firstTime, lastTime, joins, isStay, groupsFrom, mediansOf, eventNumber, eventsFrom}
-use Rattle.stay.specs.Steps.{State, midOf, taken, kept, closed, step, joinTest, stayTest, elapsed}
+use Rattle.trace.specs.Trace.{Fix}
+use Rattle.stay.specs.Stays.{middle, since, firstTime, lastTime, joins, isStay, groupsFrom, mediansOf}
+use Rattle.stay.specs.StepsEvents.{eventNumber, eventsFrom}
+use Rattle.stay.specs.Steps.{State, midOf, withPoint, closedAs, closed, step, joinTest, stayTest, elapsed}
 use Rattle.stay.proofs.Ordered.{ordered-more}
 use Rattle.stay.proofs.States.{step-joins, step-closes}
-use Rattle.stay.proofs.Groups.{groups-join, groups-close, groups-end}
-use Rattle.stay.proofs.Fixes.{noFix, pointAt, timeAt, map-x, map-y, first-more, last-more}
+use Rattle.stay.proofs.Groups.{groups-join, groups-close, groups-end, map-x, map-y, first-more, last-more}
+use Rattle.trace.proofs.Fixes.{noFix, pointAt, timeAt}
 
 abbrev pub px : Point → Float
 px p = p .x
@@ -28,7 +29,7 @@ px p = p .x
 abbrev pub py : Point → Float
 py p = p .y
 
-module _ (dist : Point → Point → Float) (s : StaySettings) (t : Bool) (ts : List Float) (fs : List Fix) where
+module _ (dist : Point → Point → Float) (s : Config) (t : Bool) (ts : List Float) (fs : List Fix) where
   -- the steps of the k fixes from i
   unfoldable pub run : ℕ → ℕ → State → State
   run i zero st = st
@@ -61,8 +62,8 @@ module _ (dist : Point → Point → Float) (s : StaySettings) (t : Bool) (ts : 
   -- ---- closing a group
 
   ends-kept : (i : ℕ) (st fin : State) (g : List Fix) (gs : List (List Fix)) (ok : Bool) (m : Point) → isStay s t g ≡ ok → middle g ≡ m → length g ≡ i - st .start
-      → Ends (kept ok m i st) fin gs → Ends st fin (g ∷ gs)
-  unfolding kept mediansOf eventsFrom
+      → Ends (closedAs ok m i st) fin gs → Ends st fin (g ∷ gs)
+  unfolding closedAs mediansOf eventsFrom
   ends-kept i st fin g gs true m p q n e =
       record {
         stays = e .stays ∙ (rw p (let z : st .stays + 1 + length (mediansOf s t gs) ≡ st .stays + suc (length (mediansOf s t gs)) = omega arith in z));
@@ -117,8 +118,8 @@ module _ (dist : Point → Point → Float) (s : StaySettings) (t : Bool) (ts : 
 
     -- ---- one fix
 
-    holds-joined : (i : ℕ) (st : State) (g : List Fix) → Holds i st g → Holds (suc i) (taken (pointAt fs i) st) (g ++ (getD fs i noFix ∷ []))
-    unfolding taken
+    holds-joined : (i : ℕ) (st : State) (g : List Fix) → Holds i st g → Holds (suc i) (withPoint (pointAt fs i) st) (g ++ (getD fs i noFix ∷ []))
+    unfolding withPoint
     holds-joined i st g h =
         let f = getD fs i noFix in
         let some-fix : 0 < length g = omega (arith, h .size, h .before) in
@@ -131,8 +132,8 @@ module _ (dist : Point → Point → Float) (s : StaySettings) (t : Bool) (ts : 
           last = last-more g f ∙ ap (timeAt fs) (let z : i ≡ suc i - 1 = omega arith in z);
         }
 
-    holds-opened : (i : ℕ) (st : State) → Holds (suc i) (taken (pointAt fs i) (closed s t ts i st)) (getD fs i noFix ∷ [])
-    unfolding taken closed kept ordered firstTime lastTime
+    holds-opened : (i : ℕ) (st : State) → Holds (suc i) (withPoint (pointAt fs i) (closed s t ts i st)) (getD fs i noFix ∷ [])
+    unfolding withPoint closed closedAs ordered firstTime lastTime
     holds-opened i st =
         record {
           before = omega arith;
@@ -144,8 +145,8 @@ module _ (dist : Point → Point → Float) (s : StaySettings) (t : Bool) (ts : 
         }
 
     -- taking a point in alters none of what `Ends` speaks of
-    ends-taken : (p : Point) (st fin : State) (gs : List (List Fix)) → Ends (taken p st) fin gs → Ends st fin gs
-    unfolding taken
+    ends-taken : (p : Point) (st fin : State) (gs : List (List Fix)) → Ends (withPoint p st) fin gs → Ends st fin gs
+    unfolding withPoint
     ends-taken p st fin gs e = record { stays = e .stays; events = e .events; mx = e .mx; my = e .my }
 
     -- ---- the run
@@ -170,18 +171,18 @@ module _ (dist : Point → Point → Float) (s : StaySettings) (t : Bool) (ts : 
         go true b ih =
             let p = pointAt fs i in
             let f = getD fs i noFix in
-            let e : step dist s t ts p i st ≡ taken p st = step-joins dist s t ts p i st (joins-is i st g h (omega arith) ∙ b) in
+            let e : step dist s t ts p i st ≡ withPoint p st = step-joins dist s t ts p i st (joins-is i st g h (omega arith) ∙ b) in
             subst (λ (st' : State). Ends st (closed s t ts (length fs) (run (suc i) k st')) (groupsFrom dist s t g (f ∷ drop (suc i) fs))) (sym e)
-            (subst (λ (gs : List (List Fix)). Ends st (closed s t ts (length fs) (run (suc i) k (taken p st))) gs) (sym (groups-join dist s t g f (drop (suc i) fs) b))
-            (ends-taken p st (closed s t ts (length fs) (run (suc i) k (taken p st))) (groupsFrom dist s t (g ++ (f ∷ [])) (drop (suc i) fs))
-            (ih (taken p st) (g ++ (f ∷ [])) (omega arith) (holds-joined i st g h))))
+            (subst (λ (gs : List (List Fix)). Ends st (closed s t ts (length fs) (run (suc i) k (withPoint p st))) gs) (sym (groups-join dist s t g f (drop (suc i) fs) b))
+            (ends-taken p st (closed s t ts (length fs) (run (suc i) k (withPoint p st))) (groupsFrom dist s t (g ++ (f ∷ [])) (drop (suc i) fs))
+            (ih (withPoint p st) (g ++ (f ∷ [])) (omega arith) (holds-joined i st g h))))
         go false b ih =
             let p = pointAt fs i in
             let f = getD fs i noFix in
             let c = closed s t ts i st in
-            let e : step dist s t ts p i st ≡ taken p c = step-closes dist s t ts p i st (joins-is i st g h (omega arith) ∙ b) in
+            let e : step dist s t ts p i st ≡ withPoint p c = step-closes dist s t ts p i st (joins-is i st g h (omega arith) ∙ b) in
             subst (λ (st' : State). Ends st (closed s t ts (length fs) (run (suc i) k st')) (groupsFrom dist s t g (f ∷ drop (suc i) fs))) (sym e)
-            (subst (λ (gs : List (List Fix)). Ends st (closed s t ts (length fs) (run (suc i) k (taken p c))) gs) (sym (groups-close dist s t g f (drop (suc i) fs) b))
-            (ends-closed i st (closed s t ts (length fs) (run (suc i) k (taken p c))) g (groupsFrom dist s t (f ∷ []) (drop (suc i) fs)) h (omega arith)
-            (ends-taken p c (closed s t ts (length fs) (run (suc i) k (taken p c))) (groupsFrom dist s t (f ∷ []) (drop (suc i) fs))
-            (ih (taken p c) (f ∷ []) (omega arith) (holds-opened i st)))))
+            (subst (λ (gs : List (List Fix)). Ends st (closed s t ts (length fs) (run (suc i) k (withPoint p c))) gs) (sym (groups-close dist s t g f (drop (suc i) fs) b))
+            (ends-closed i st (closed s t ts (length fs) (run (suc i) k (withPoint p c))) g (groupsFrom dist s t (f ∷ []) (drop (suc i) fs)) h (omega arith)
+            (ends-taken p c (closed s t ts (length fs) (run (suc i) k (withPoint p c))) (groupsFrom dist s t (f ∷ []) (drop (suc i) fs))
+            (ih (withPoint p c) (f ∷ []) (omega arith) (holds-opened i st)))))

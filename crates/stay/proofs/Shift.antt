@@ -1,4 +1,4 @@
--- Making room for an element: the shift of `shift_in`, and the insertion that it makes. Assumes nothing.
+-- Making room for an element: the shift of `shift_in`, and the insertion that it makes.
 use mathlib.Core.Path.{_≡_, refl, sym, ap, ap₂, _∙_}
 use mathlib.Core.List.{List, [], _∷_, _++_, append-nil}
 use Prim.Native.Nat.{ℕ, zero, suc, _+_, _-_, _≤_, _<_}
@@ -7,8 +7,8 @@ use native.Mathlib.Numerals.{add-one, unary-clauses}
 use lib.ListN.{length, take, drop, getD, set, drop-of-length-le}
 use lib.Seq.{length-take-le, take-take, take-at, drop-at, set-split}
 use lib.Ieee.{Float, nan}
-use Rattle.stay.specs.Ordered.{position, insertOrdered}
-use Rattle.stay.specs.Regions.{shifted}
+use Rattle.stay.specs.Ordered.{insertionPoint, insertOrdered}
+use Rattle.stay.specs.StepsRegions.{shifted}
 use Rattle.stay.proofs.Ordered.{position-le}
 
 -- s without the element at j
@@ -49,11 +49,11 @@ filled p e s s₀ h l q =
     set-split s p e h ∙ sym (ap (λ (k : ℕ). take k (take p s₀ ++ (e ∷ drop p s₀))) size ∙ falls-off p n e s₀ (omega arith) ∙ ap₂ (λ (a b : List Float). a ++ (e ∷ b)) front back)
 
 -- the place is within the elements that were looked at
-pub position-in : (s : List Float) (n : ℕ) (e : Float) → n < length s → position e (take n s) ≤ n
+pub position-in : (s : List Float) (n : ℕ) (e : Float) → n < length s → insertionPoint e (take n s) ≤ n
 position-in s n e h = omega (arith, position-le e (take n s), length-take-le n s (omega arith))
 
 -- the shift at that place is the insertion
-pub inserted : (s : List Float) (n : ℕ) (e : Float) → n < length s → shifted (position e (take n s)) e (take (n + 1) s) ≡ insertOrdered e (take n s)
+pub inserted : (s : List Float) (n : ℕ) (e : Float) → n < length s → shifted (insertionPoint e (take n s)) e (take (n + 1) s) ≡ insertOrdered e (take n s)
 unfolding shifted insertOrdered
 inserted s n e h =
-    rw (length-take-le (n + 1) s (omega arith), add-one n, falls-off (position e (take n s)) n e (take (suc n) s) (position-in s n e h), take-take n (suc n) s (omega arith))
+    rw (length-take-le (n + 1) s (omega arith), add-one n, falls-off (insertionPoint e (take n s)) n e (take (suc n) s) (position-in s n e h), take-take n (suc n) s (omega arith))

@@ -1,7 +1,7 @@
--- The state that the slices stand for, after each step of the code. Assumes nothing.
+-- The state that the slices stand for, after each step of the code.
 use mathlib.Core.Path.{_≡_, refl, sym, ap, _∙_}
 use mathlib.Core.Bool.{Bool, true, false}
-use mathlib.Core.List.{List, [], _++_, append-assoc}
+use mathlib.Core.List.{List, _++_, append-assoc}
 use Prim.Native.Nat.{ℕ, _+_, _-_, _*_, _<_, _≤_}
 use native.Mathlib.Nat.{sub-self}
 use native.Mathlib.Omega.{arith}
@@ -10,12 +10,13 @@ use lib.ListN.{length, drop, take, set, replicate, length-append, length-replica
 use lib.Seq.{take-at, length-take-le}
 use lib.Ieee.{Float}
 use Rattle.distance.specs.declared.Point.{Point}
-use Rattle.stay.specs.declared.StaySettings.{StaySettings}
+use Rattle.settings.specs.declared.config.Config.{Config}
 use Rattle.stay.specs.declared.Open.{Open}
-use Rattle.stay.specs.Regions.{insertBoth, middleIn}
-use Rattle.stay.specs.Stays.{eventNumber}
-use Rattle.stay.specs.Steps.{State, stateOf, midOf, taken, kept, closed, step, joinTest, elapsed, Room}
-use Rattle.stay.proofs.Regions.{part-set, part-set-above, part-set-below, grown-x, grown-y, both-above}
+use Rattle.stay.specs.StepsRegions.{insertBoth, middleIn}
+use Rattle.stay.specs.StepsEvents.{eventNumber}
+use Rattle.stay.specs.Steps.{State, stateOf, midOf, withPoint, closedAs, closed, step, joinTest, elapsed, Room}
+use Rattle.lists.proofs.Parts.{part-set, part-set-above, part-set-below}
+use Rattle.stay.proofs.Regions.{grown-x, grown-y, both-above}
 
 -- the median of the code is that of the state
 pub mid-is : (q i : ℕ) (w : List Float) (l : List ℤ) (o : Open) → middleIn q (i - o .start) w ≡ midOf (stateOf q i w l o)
@@ -31,8 +32,8 @@ module _ (q i : ℕ) (w : List Float) (l : List ℤ) (o : Open) (m : Point) (roo
 
   pub kept-stay : {d : List ℤ} → d ≡ replicate (i - o .start) (pos (o .stays))
       → stateOf q i (set (set w (2 * q + o .stays) (m .x)) (3 * q + o .stays) (m .y)) (take (o .start) l ++ (d ++ drop (i - o .start) (drop (o .start) l))) (record { start = i; stays = o .stays + 1 })
-      ≡ kept true m i (stateOf q i w l o)
-  unfolding stateOf kept eventNumber
+      ≡ closedAs true m i (stateOf q i w l o)
+  unfolding stateOf closedAs eventNumber
   kept-stay e =
       rw (
         sub-self i,
@@ -45,14 +46,14 @@ module _ (q i : ℕ) (w : List Float) (l : List ℤ) (o : Open) (m : Point) (roo
       )
 
   pub kept-none : {d : List ℤ} → d ≡ replicate (i - o .start) (negsuc 0)
-      → stateOf q i w (take (o .start) l ++ (d ++ drop (i - o .start) (drop (o .start) l))) (record { start = i; stays = o .stays }) ≡ kept false m i (stateOf q i w l o)
-  unfolding stateOf kept eventNumber
+      → stateOf q i w (take (o .start) l ++ (d ++ drop (i - o .start) (drop (o .start) l))) (record { start = i; stays = o .stays }) ≡ closedAs false m i (stateOf q i w l o)
+  unfolding stateOf closedAs eventNumber
   kept-none e = rw (sub-self i, e, events-closed (negsuc 0))
 
 -- a point taken in
 pub grown-state : (q i len : ℕ) (w : List Float) (l : List ℤ) (o : Open) (p : Point) → o .start ≤ i → len ≡ i - o .start → len < q → 4 * q ≤ length w
-    → stateOf q (i + 1) (insertBoth q len (p .x) (p .y) w) l o ≡ taken p (stateOf q i w l o)
-unfolding stateOf taken
+    → stateOf q (i + 1) (insertBoth q len (p .x) (p .y) w) l o ≡ withPoint p (stateOf q i w l o)
+unfolding stateOf withPoint
 grown-state q i len w l o p s e h f =
     let more : i + 1 - o .start ≡ len + 1 = omega arith in
     rw (
@@ -65,12 +66,12 @@ grown-state q i len w l o p s e h f =
 
 -- ---- the step
 
-module _ (dist : Point → Point → Float) (s : StaySettings) (t : Bool) (ts : List Float) (p : Point) (i : ℕ) where
-  pub step-joins : (st : State) → joinTest t s (dist p (midOf st)) (elapsed t ts (i - 1) i) ≡ true → step dist s t ts p i st ≡ taken p st
+module _ (dist : Point → Point → Float) (s : Config) (t : Bool) (ts : List Float) (p : Point) (i : ℕ) where
+  pub step-joins : (st : State) → joinTest t s (dist p (midOf st)) (elapsed t ts (i - 1) i) ≡ true → step dist s t ts p i st ≡ withPoint p st
   unfolding step
   step-joins st h = rw h
 
-  pub step-closes : (st : State) → joinTest t s (dist p (midOf st)) (elapsed t ts (i - 1) i) ≡ false → step dist s t ts p i st ≡ taken p (closed s t ts i st)
+  pub step-closes : (st : State) → joinTest t s (dist p (midOf st)) (elapsed t ts (i - 1) i) ≡ false → step dist s t ts p i st ≡ withPoint p (closed s t ts i st)
   unfolding step
   step-closes st h = rw h
 

@@ -1,4 +1,4 @@
--- A whole trace: what the run is sound for at each fix, and what it has found at the end. Assumes nothing.
+-- A whole trace: what the run is sound for at each fix, and what it has found at the end.
 use mathlib.Core.Path.{_≡_, refl, sym, ap, ap₂, _∙_, subst}
 use mathlib.Core.Bool.{Bool, true, false, cond}
 use mathlib.Core.List.{List, [], _∷_, map}
@@ -11,18 +11,22 @@ use lib.Seq.{take-all, sets}
 use lib.Ieee.{Float, nan}
 use Rattle.distance.specs.declared.Point.{Point}
 use Rattle.distance.specs.Distance.{euclidean}
-use Rattle.stay.specs.declared.StaySettings.{StaySettings}
+use Rattle.settings.specs.declared.config.Config.{Config}
 use Rattle.stay.specs.declared.Open.{Open}
-use Rattle.stay.specs.Ordered.{inOrder, ordered}
-use Rattle.stay.specs.Regions.{part, insertBoth}
-use Rattle.stay.specs.Trace.{Fix, fixes, timed}
-use Rattle.stay.specs.Stays.{groupsFrom, groups, firstTime, lastTime, stayMedians, eventMap, mediansOf, eventsFrom}
-use Rattle.stay.specs.Steps.{State, stateOf, taken, kept, closed, step, joinTest, stayTest, elapsed, midOf, allMarked}
-use Rattle.stay.specs.Found.{Found}
+use Rattle.stay.specs.StepsOrdered.{inOrder}
+use Rattle.stay.specs.Ordered.{ordered}
+use Rattle.lists.specs.StepsParts.{part}
+use Rattle.stay.specs.StepsRegions.{insertBoth}
+use Rattle.trace.specs.Trace.{Fix, fixes, timed}
+use Rattle.stay.specs.Stays.{groupsFrom, groups, firstTime, lastTime, stayMedians, mediansOf}
+use Rattle.stay.specs.StepsEvents.{eventMap, eventsFrom}
+use Rattle.stay.specs.Steps.{State, stateOf, withPoint, closedAs, closed, step, joinTest, stayTest, elapsed, midOf}
+use Rattle.trace.specs.Steps.{allMarked}
+use Rattle.stay.specs.StepsFound.{Found}
 use Rattle.stay.proofs.Ordered.{insert-in-order}
 use Rattle.stay.proofs.Regions.{both-above}
 use Rattle.stay.proofs.States.{grown-state}
-use Rattle.stay.proofs.Fixes.{noFix, pointAt, fixes-length, fixes-at, timed-marked, time-at}
+use Rattle.trace.proofs.Fixes.{noFix, pointAt, fixes-length, fixes-at, timed-marked, time-at}
 use Rattle.stay.proofs.Run.{px, py, run, Holds, Ends, ends}
 
 -- ---- at each fix
@@ -34,13 +38,13 @@ pub record Sound (found i : ℕ) (st : State) : Type 0 where
   pub x-order : inOrder (st .gx) ≡ true
   pub y-order : inOrder (st .gy) ≡ true
 
-sound-taken : (found i : ℕ) (p : Point) (st : State) → st .start ≤ i → st .stays ≤ found + st .start → inOrder (st .gx) ≡ true → inOrder (st .gy) ≡ true → Sound found (suc i) (taken p st)
-unfolding taken
+sound-taken : (found i : ℕ) (p : Point) (st : State) → st .start ≤ i → st .stays ≤ found + st .start → inOrder (st .gx) ≡ true → inOrder (st .gy) ≡ true → Sound found (suc i) (withPoint p st)
+unfolding withPoint
 sound-taken found i p st h f x y =
     record { before = omega arith; few = f; x-order = insert-in-order (p .x) (st .gx) x; y-order = insert-in-order (p .y) (st .gy) y }
 
-sound-closed : (s : StaySettings) (t : Bool) (ts : List Float) (p : Point) (found i : ℕ) (st : State) → Sound found i st → Sound found (suc i) (taken p (closed s t ts i st))
-unfolding closed kept inOrder
+sound-closed : (s : Config) (t : Bool) (ts : List Float) (p : Point) (found i : ℕ) (st : State) → Sound found i st → Sound found (suc i) (withPoint p (closed s t ts i st))
+unfolding closed closedAs inOrder
 sound-closed s t ts p found i st h =
     sound-taken found i p (closed s t ts i st) (omega arith) (more (stayTest t s (i - st .start) (elapsed t ts (st .start) (i - 1)))) refl refl
   where
@@ -48,25 +52,25 @@ sound-closed s t ts p found i st h =
     more true = omega (arith, h .few, h .before)
     more false = omega (arith, h .few, h .before)
 
-pub sound-step : (dist : Point → Point → Float) (s : StaySettings) (t : Bool) (ts : List Float) (p : Point) (found i : ℕ) (st : State)
+pub sound-step : (dist : Point → Point → Float) (s : Config) (t : Bool) (ts : List Float) (p : Point) (found i : ℕ) (st : State)
     → Sound found i st → Sound found (i + 1) (step dist s t ts p i st)
 unfolding step
 sound-step dist s t ts p found i st h =
     subst (λ (k : ℕ). Sound found k (step dist s t ts p i st)) (sym (add-one i)) (go (joinTest t s (dist p (midOf st)) (elapsed t ts (i - 1) i)))
   where
-    go : (b : Bool) → Sound found (suc i) (taken p (cond b st (closed s t ts i st)))
+    go : (b : Bool) → Sound found (suc i) (withPoint p (cond b st (closed s t ts i st)))
     go true = sound-taken found i p st (omega (arith, h .before)) (h .few) (h .x-order) (h .y-order)
     go false = sound-closed s t ts p found i st h
 
 -- one turn of the run, and its end
-pub run-on : (dist : Point → Point → Float) (s : StaySettings) (t : Bool) (ts : List Float) (fs : List Fix) (i n : ℕ) (st st' : State) → i < n
+pub run-on : (dist : Point → Point → Float) (s : Config) (t : Bool) (ts : List Float) (fs : List Fix) (i n : ℕ) (st st' : State) → i < n
     → st' ≡ step dist s t ts (pointAt fs i) i st → run dist s t ts fs (i + 1) (n - (i + 1)) st' ≡ run dist s t ts fs i (n - i) st
 unfolding run
 run-on dist s t ts fs i n st st' h e =
     let k : n - i ≡ suc (n - (i + 1)) = omega arith in
     rw (k, e, add-one i)
 
-pub run-end : (dist : Point → Point → Float) (s : StaySettings) (t : Bool) (ts : List Float) (fs : List Fix) (i n : ℕ) (st : State) → n ≤ i → run dist s t ts fs i (n - i) st ≡ st
+pub run-end : (dist : Point → Point → Float) (s : Config) (t : Bool) (ts : List Float) (fs : List Fix) (i n : ℕ) (st : State) → n ≤ i → run dist s t ts fs i (n - i) st ≡ st
 unfolding run
 run-end dist s t ts fs i n st h =
     let k : n - i ≡ 0 = omega arith in
@@ -74,7 +78,7 @@ run-end dist s t ts fs i n st h =
 
 -- ---- at the start and at the end
 
-module _ (s : StaySettings) (xs ys ts : List Float) (ms : List ℕ) (ly : length ys ≡ length xs) (lt : length ts ≡ length xs) (lm : length ms ≡ length xs) (found : ℕ) where
+module _ (s : Config) (xs ys ts : List Float) (ms : List ℕ) (ly : length ys ≡ length xs) (lt : length ts ≡ length xs) (lm : length ms ≡ length xs) (found : ℕ) where
   abbrev fs : List Fix
   fs = fixes xs ys ts ms
 
@@ -92,17 +96,17 @@ module _ (s : StaySettings) (xs ys ts : List Float) (ms : List ℕ) (ly : length
     abbrev pub first-state : State
     first-state = stateOf q 1 (insertBoth q 0 (getD xs 0 nan) (getD ys 0 nan) w) l (record { start = 0; stays = found })
 
-    first-taken : first-state ≡ taken (pointAt fs 0) before
+    first-taken : first-state ≡ withPoint (pointAt fs 0) before
     first-taken =
         grown-state q 0 0 w l (record { start = 0; stays = found }) (record { x = getD xs 0 nan; y = getD ys 0 nan }) (omega arith) (omega arith) some-room fits
-        ∙ ap (λ (p : Point). taken p before) (point-is 0 some-fix)
+        ∙ ap (λ (p : Point). withPoint p before) (point-is 0 some-fix)
 
     pub sound-first : Sound found 1 first-state
     unfolding stateOf inOrder
     sound-first = subst (Sound found 1) (sym first-taken) (sound-taken found 0 (pointAt fs 0) before (omega arith) (omega arith) refl refl)
 
     holds-first : Holds euclidean s t ts fs 1 first-state (getD fs 0 noFix ∷ [])
-    unfolding taken stateOf ordered firstTime lastTime
+    unfolding withPoint stateOf ordered firstTime lastTime
     holds-first =
         subst (λ (st : State). Holds euclidean s t ts fs 1 st (getD fs 0 noFix ∷ [])) (sym first-taken)
         (record { before = omega arith; size = omega arith; xs = refl; ys = refl; first = refl; last = refl })
@@ -122,9 +126,16 @@ module _ (s : StaySettings) (xs ys ts : List Float) (ms : List ℕ) (ly : length
 
     all-ends : Ends euclidean s t ts fs first-state (closed s t ts (length xs) (run euclidean s t ts fs 1 (length xs - 1) first-state)) (groups euclidean s fs)
     all-ends =
-        subst (λ (gs : List (List Fix)). Ends euclidean s t ts fs first-state (closed s t ts (length xs) (run euclidean s t ts fs 1 (length xs - 1) first-state)) gs) (sym groups-are)
-        (subst (λ (n : ℕ). Ends euclidean s t ts fs first-state (closed s t ts n (run euclidean s t ts fs 1 (length xs - 1) first-state)) (groupsFrom euclidean s t (getD fs 0 noFix ∷ []) (drop 1 fs))) size-is
-        (ends euclidean s t ts fs (λ e j h. time-at xs ys ts ms ly lt lm e j (omega (arith, size-is))) (length xs - 1) 1 first-state (getD fs 0 noFix ∷ []) (omega (arith, size-is)) holds-first))
+        subst
+        (λ (gs : List (List Fix)). Ends euclidean s t ts fs first-state
+        (closed s t ts (length xs) (run euclidean s t ts fs 1 (length xs - 1) first-state)) gs)
+        (sym groups-are)
+        (subst
+        (λ (n : ℕ). Ends euclidean s t ts fs first-state (closed s t ts n (run euclidean s t ts fs 1 (length xs - 1) first-state))
+        (groupsFrom euclidean s t (getD fs 0 noFix ∷ []) (drop 1 fs)))
+        size-is
+        (ends euclidean s t ts fs (λ e j h. time-at xs ys ts ms ly lt lm e j (omega (arith, size-is))) (length xs - 1) 1 first-state
+        (getD fs 0 noFix ∷ []) (omega (arith, size-is)) holds-first))
 
     -- the state after the last fix, closed
     pub last-state : (tm : Bool) (w₁ v v' : List Float) (e e' : List ℤ) (o o' : Open) (i : ℕ) → tm ≡ t → w₁ ≡ insertBoth q 0 (getD xs 0 nan) (getD ys 0 nan) w → length xs ≤ i → i ≤ length xs
@@ -153,7 +164,7 @@ module _ (s : StaySettings) (xs ys ts : List Float) (ms : List ℕ) (ly : length
 
     -- what the last state says is found
     pub whole : (v : List Float) (e : List ℤ) (o : Open) → q ≡ length w / 4 → length v ≡ length w → length e ≡ length xs → Last v e o → Found s fs found w v e (o .stays - found)
-    unfolding stateOf closed kept stayMedians eventMap
+    unfolding stateOf closed closedAs stayMedians eventMap
     whole v e o qe lv le st =
         let timing : timed fs ≡ t = sym (timed-marked xs ys ts ms ly lt lm) in
         let start : o .start ≡ length xs = ap (λ (z : State). z .start) st in
@@ -166,7 +177,7 @@ module _ (s : StaySettings) (xs ys ts : List Float) (ms : List ℕ) (ly : length
         }
 
 -- a trace without a fix
-pub nothing : (s : StaySettings) (xs ys ts : List Float) (ms : List ℕ) (found : ℕ) (w : List Float) (e : List ℤ) → length xs ≡ 0 → length e ≡ 0 → Found s (fixes xs ys ts ms) found w w e 0
+pub nothing : (s : Config) (xs ys ts : List Float) (ms : List ℕ) (found : ℕ) (w : List Float) (e : List ℤ) → length xs ≡ 0 → length e ≡ 0 → Found s (fixes xs ys ts ms) found w w e 0
 unfolding fixes stayMedians eventMap groups mediansOf eventsFrom
 nothing s [] ys ts ms found w [] h k = record { count = refl; numbered = refl; medians-x = refl; medians-y = refl }
 nothing s [] ys ts ms found w (v ∷ e) h k = absurd (omega arith)

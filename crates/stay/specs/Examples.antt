@@ -1,4 +1,5 @@
 -- The definitions, run at a few values: the rules' list for a median and for single traces.
+use mathlib.Core.Bool.{true}
 use mathlib.Core.Path.{_≡_, refl}
 use mathlib.Core.List.{List, [], _∷_}
 use mathlib.Core.Option.{Option, none, some}
@@ -7,10 +8,11 @@ use lib.IntN.{ℤ, pos, negsuc}
 use lib.Ieee.{Float, binary64, ofInt, ofBits}
 use Rattle.float.specs.Binary64.{whole64}
 use Rattle.distance.specs.Distance.{euclidean}
-use Rattle.stay.specs.declared.StaySettings.{StaySettings}
+use Rattle.settings.specs.declared.config.Config.{Config}
 use Rattle.stay.specs.Ordered.{ordered, median}
-use Rattle.stay.specs.Trace.{Fix}
-use Rattle.stay.specs.Stays.{eventMap, stayMedians}
+use Rattle.trace.specs.Trace.{Fix}
+use Rattle.stay.specs.StepsEvents.{eventMap}
+use Rattle.stay.specs.Stays.{stayMedians}
 
 -- the median of 1, 2, 3, 10 is 2.5
 pub median-2-5 : median (whole64 1 ∷ whole64 2 ∷ whole64 3 ∷ whole64 10 ∷ []) ≡ ofBits binary64 0x4004_0000_0000_0000
@@ -22,8 +24,17 @@ unfolding ordered ofInt
 ordered-4 = refl
 
 -- r1 10, size 2, stay 300, gap 86400
-settings : StaySettings
-settings = record { r1 = whole64 10; «min_size» = 2; «min_staying_time» = whole64 300; «max_time_between» = whole64 86400 }
+settings : Config
+settings =
+    record {
+      r1 = whole64 10;
+      r2 = whole64 10;
+      «label_singleton» = true;
+      «min_staying_time» = whole64 300;
+      «max_time_between» = whole64 86400;
+      «min_size» = 2;
+      seed = 42;
+    }
 
 fix : ℕ → ℕ → Option Float → Fix
 fix x y t = record { at = record { x = whole64 x; y = whole64 y }; time = t }

@@ -1,7 +1,9 @@
 pub mod Ordered
-pub mod Trace
 pub mod Stays
-pub mod Regions
+pub mod StepsOrdered
+pub mod StepsEvents
+pub mod StepsRegions
 pub mod Steps
-pub mod Found
+pub mod StepsFound
+pub mod StepsAll
 pub mod Examples

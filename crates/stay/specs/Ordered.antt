@@ -1,6 +1,6 @@
 -- docs/RULES.md, "Stays": the coordinates of a group in order, and their median. Definitions only.
 use Prim.Native.Nat.{ℕ, suc, _-_, _/_}
-use mathlib.Core.Bool.{Bool, true, _&&_, _||_, cond}
+use mathlib.Core.Bool.{Bool, _||_, cond}
 use mathlib.Core.List.{List, [], _∷_, _++_}
 use lib.ListN.{length, take, drop, getD}
 use lib.Ieee.{Float, nan, isNan, le, add, mul, ofBits}
@@ -11,28 +11,16 @@ unfoldable pub atMost : Float → Float → Bool
 unfolding le isNan
 atMost a b = le a b || isNan b
 
--- x is at most the first of xs.
-unfoldable pub atMostFirst : Float → List Float → Bool
-unfolding atMost
-atMostFirst x [] = true
-atMostFirst x (y ∷ ys) = atMost x y
-
--- Each element is at most the next.
-unfoldable pub inOrder : List Float → Bool
-unfolding atMostFirst
-inOrder [] = true
-inOrder (x ∷ xs) = atMostFirst x xs && inOrder xs
-
 -- How many elements stand before the first that is not at most e: the Rust's partition_point(|x| x <= elem).
-unfoldable pub position : Float → List Float → ℕ
+unfoldable pub insertionPoint : Float → List Float → ℕ
 unfolding atMost
-position e [] = 0
-position e (x ∷ xs) = cond (atMost x e) (suc (position e xs)) 0
+insertionPoint e [] = 0
+insertionPoint e (x ∷ xs) = cond (atMost x e) (suc (insertionPoint e xs)) 0
 
 -- e inserted there: "a new equal one after its equals".
 unfoldable pub insertOrdered : Float → List Float → List Float
-unfolding position
-insertOrdered e xs = take (position e xs) xs ++ (e ∷ drop (position e xs) xs)
+unfolding insertionPoint
+insertOrdered e xs = take (insertionPoint e xs) xs ++ (e ∷ drop (insertionPoint e xs) xs)
 
 -- The elements of acc, and those of xs inserted one after the other.
 unfoldable pub orderedFrom : List Float → List Float → List Float

@@ -1,17 +1,17 @@
--- docs/RULES.md, "Stays": the groups of a trace, which of them are stays, and their medians. Definitions only.
-use Prim.Native.Nat.{ℕ, suc, _-_}
+-- docs/RULES.md, "Stays": the groups of a trace, which of them are stays, and their medians; and those of all traces. Definitions only.
+use Prim.Native.Nat.{_-_}
 use mathlib.Core.Bool.{Bool, true, false, not, _&&_, _||_, cond}
 use mathlib.Core.List.{List, [], _∷_, _++_, map}
 use mathlib.Core.Option.{Option, none, some}
 use lib.Dec.{leb}
-use lib.IntN.{ℤ, pos, negsuc}
 use lib.ListN.{length, getD, replicate}
 use lib.Ieee.{Float, nan, le, sub}
 use Rattle.float.specs.Binary64.{sub64}
 use Rattle.distance.specs.declared.Point.{Point}
-use Rattle.stay.specs.declared.StaySettings.{StaySettings}
+use Rattle.settings.specs.declared.config.Config.{Config}
+use Rattle.distance.specs.Distance.{Metric}
 use Rattle.stay.specs.Ordered.{ordered, median}
-use Rattle.stay.specs.Trace.{Fix, timed}
+use Rattle.trace.specs.Trace.{Fix, timed}
 
 -- A group is a list of fixes that follow each other. Its median: each coordinate's by itself.
 unfoldable pub middle : List Fix → Point
@@ -32,13 +32,7 @@ firstTime g = getD (map (λ (f : Fix). f .time) g) 0 none
 unfoldable pub lastTime : List Fix → Option Float
 lastTime g = getD (map (λ (f : Fix). f .time) g) (length g - 1) none
 
--- The number of an accepted stay, or -1.
-unfoldable pub eventNumber : Bool → ℕ → ℤ
-eventNumber true k = pos k
-eventNumber false k = negsuc 0
-
--- The distance is a parameter.
-module _ (dist : Point → Point → Float) (s : StaySettings) where
+module _ (dist : Metric) (s : Config) where
   -- "A fix joins if its distance to the median is <= r1 and, when timed, its time less the last is <= max_time_between."
   unfoldable pub joins : Bool → List Fix → Fix → Bool
   unfolding le middle since lastTime
@@ -57,7 +51,7 @@ module _ (dist : Point → Point → Float) (s : StaySettings) where
   groups (f ∷ fs) = groupsFrom (timed (f ∷ fs)) (f ∷ []) fs
 
 -- Which of the groups are stays.
-module _ (s : StaySettings) where
+module _ (s : Config) where
   -- "A closed group is a stay if it has at least min_size fixes and, when timed, last less first time is >= min_staying_time."
   unfoldable pub isStay : Bool → List Fix → Bool
   unfolding le since firstTime lastTime
@@ -69,28 +63,28 @@ module _ (s : StaySettings) where
   mediansOf t [] = []
   mediansOf t (g ∷ gs) = let r = mediansOf t gs in cond (isStay t g) (middle g ∷ r) r
 
-  -- For each fix of the groups the number of its stay, counted from k, or -1.
-  unfoldable pub eventsFrom : Bool → ℕ → List (List Fix) → List ℤ
-  unfolding isStay eventNumber
-  eventsFrom t k [] = []
-  eventsFrom t k (g ∷ gs) = replicate (length g) (eventNumber (isStay t g) k) ++ eventsFrom t (cond (isStay t g) (suc k) k) gs
-
   -- For each fix of the groups the median of the accepted stay it lies in, or none.
-  unfoldable pub liesIn : Bool → List (List Fix) → List (Option Point)
+  unfoldable pub fixMediansOf : Bool → List (List Fix) → List (Option Point)
   unfolding isStay middle
-  liesIn t [] = []
-  liesIn t (g ∷ gs) = replicate (length g) (cond (isStay t g) (some (middle g)) none) ++ liesIn t gs
+  fixMediansOf t [] = []
+  fixMediansOf t (g ∷ gs) = replicate (length g) (cond (isStay t g) (some (middle g)) none) ++ fixMediansOf t gs
 
-module _ (dist : Point → Point → Float) (s : StaySettings) where
-  -- Of one trace: the medians of its accepted stays, in order; its fixes' stay numbers, counted from k; where its fixes lie.
+module _ (dist : Metric) (s : Config) where
+  -- Of one trace: the medians of its accepted stays, in order; of each fix the median of the accepted stay that it lies in, or none.
   unfoldable pub stayMedians : List Fix → List Point
   unfolding groups mediansOf
   stayMedians fs = mediansOf s (timed fs) (groups dist s fs)
 
-  unfoldable pub eventMap : ℕ → List Fix → List ℤ
-  unfolding groups eventsFrom
-  eventMap k fs = eventsFrom s (timed fs) k (groups dist s fs)
+  unfoldable pub fixMedians : List Fix → List (Option Point)
+  unfolding groups fixMediansOf
+  fixMedians fs = fixMediansOf s (timed fs) (groups dist s fs)
 
-  unfoldable pub lies : List Fix → List (Option Point)
-  unfolding groups liesIn
-  lies fs = liesIn s (timed fs) (groups dist s fs)
+-- The medians of the accepted stays of all traces, in order.
+unfoldable pub allMedians : Metric → Config → List (List Fix) → List Point
+allMedians dist s [] = []
+allMedians dist s (t ∷ ts) = stayMedians dist s t ++ allMedians dist s ts
+
+-- Of each fix, in order of the traces, the median of the accepted stay that it lies in, or none.
+unfoldable pub allFixMedians : Metric → Config → List (List Fix) → List (Option Point)
+allFixMedians dist s [] = []
+allFixMedians dist s (t ∷ ts) = fixMedians dist s t ++ allFixMedians dist s ts

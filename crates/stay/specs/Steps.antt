@@ -1,34 +1,31 @@
--- What the steps of `stays` ensure: the state that its slices stand for, and what each step makes of it. Definitions only.
+-- Serves the contracts of this crate's own functions; no public contract reaches it.
+-- What the steps of `stays` ensure: the state that its slices stand for, and what each step makes of it.
 use Prim.Native.Nat.{ℕ, _+_, _-_, _*_, _≤_, _<_, _^_}
 use mathlib.Core.Path.{_≡_}
 use mathlib.Core.Bool.{Bool, true, not, _&&_, _||_, cond}
-use mathlib.Core.List.{List, [], _∷_, _++_}
-use lib.Dec.{leb, eqb}
+use mathlib.Core.List.{List, [], _++_}
+use lib.Dec.{leb}
 use lib.IntN.{ℤ}
 use lib.ListN.{length, take, set, getD, replicate}
 use lib.Ieee.{Float, nan, le}
 use Rattle.float.specs.Binary64.{sub64, zero64}
 use Rattle.distance.specs.declared.Point.{Point}
-use Rattle.stay.specs.declared.StaySettings.{StaySettings}
+use Rattle.settings.specs.declared.config.Config.{Config}
 use Rattle.stay.specs.declared.Open.{Open}
-use Rattle.stay.specs.Ordered.{insertOrdered, median, inOrder}
-use Rattle.stay.specs.Regions.{part}
-use Rattle.stay.specs.Stays.{eventNumber}
-
--- Whether all marks are 1.
-unfoldable pub allMarked : List ℕ → Bool
-allMarked [] = true
-allMarked (m ∷ ms) = eqb m 1 && allMarked ms
+use Rattle.stay.specs.Ordered.{insertOrdered, median}
+use Rattle.stay.specs.StepsOrdered.{inOrder}
+use Rattle.lists.specs.StepsParts.{part}
+use Rattle.stay.specs.StepsEvents.{eventNumber}
 
 -- The time at b less that at a. Times are not looked at unless all are marked.
 unfoldable pub elapsed : Bool → List Float → ℕ → ℕ → Float
 elapsed t ts a b = cond t (sub64 (getD ts b nan) (getD ts a nan)) zero64
 
 -- The tests of joining and of acceptance, on numbers.
-unfoldable pub joinTest : Bool → StaySettings → Float → Float → Bool
+unfoldable pub joinTest : Bool → Config → Float → Float → Bool
 joinTest t s d e = le d (s .r1) && (not t || le e (s .«max_time_between»))
 
-unfoldable pub stayTest : Bool → StaySettings → ℕ → Float → Bool
+unfoldable pub stayTest : Bool → Config → ℕ → Float → Bool
 stayTest t s n e = leb (s .«min_size») n && (not t || le (s .«min_staying_time») e)
 
 -- The run's state: where the open group starts, how many stays are before it, its coordinates in order, the numbers of the fixes before it,
@@ -60,8 +57,8 @@ unfoldable pub midOf : State → Point
 midOf st = record { x = median (st .gx); y = median (st .gy) }
 
 -- A point taken in.
-unfoldable pub taken : Point → State → State
-taken p st =
+unfoldable pub withPoint : Point → State → State
+withPoint p st =
     record {
       start = st .start;
       stays = st .stays;
@@ -73,8 +70,8 @@ taken p st =
     }
 
 -- The open group closed before fix i, as a stay with the median m or as none.
-unfoldable pub kept : Bool → Point → ℕ → State → State
-kept ok m i st =
+unfoldable pub closedAs : Bool → Point → ℕ → State → State
+closedAs ok m i st =
     record {
       start = i;
       stays = cond ok (st .stays + 1) (st .stays);
@@ -85,12 +82,12 @@ kept ok m i st =
       my = cond ok (set (st .my) (st .stays) (m .y)) (st .my);
     }
 
-unfoldable pub closed : StaySettings → Bool → List Float → ℕ → State → State
-closed s t ts i st = kept (stayTest t s (i - st .start) (elapsed t ts (st .start) (i - 1))) (midOf st) i st
+unfoldable pub closed : Config → Bool → List Float → ℕ → State → State
+closed s t ts i st = closedAs (stayTest t s (i - st .start) (elapsed t ts (st .start) (i - 1))) (midOf st) i st
 
 -- One fix: it joins the open group, or closes it and opens the next.
-unfoldable pub step : (Point → Point → Float) → StaySettings → Bool → List Float → Point → ℕ → State → State
-step dist s t ts p i st = taken p (cond (joinTest t s (dist p (midOf st)) (elapsed t ts (i - 1) i)) st (closed s t ts i st))
+unfoldable pub step : (Point → Point → Float) → Config → Bool → List Float → Point → ℕ → State → State
+step dist s t ts p i st = withPoint p (cond (joinTest t s (dist p (midOf st)) (elapsed t ts (i - 1) i)) st (closed s t ts i st))
 
 -- The slices hold the open group, its label places and one more median.
 pub record Room (q i : ℕ) (o : Open) (work events : ℕ) : Type 0 where

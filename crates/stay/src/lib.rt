@@ -1,24 +1,20 @@
 // Ordered insertion, the median, and the stays of one trace.
+pub mod all;
+
 use distance::Point;
+use settings::config::Config;
 ghost use mathlib.Core.Path.{_≡_};
 ghost use mathlib.Core.Bool.{true};
 ghost use mathlib.Core.List.{_++_};
 ghost use Prim.Native.Nat.{_+_, _<_, _≤_};
-ghost use lib.ListN.{length, take, drop, replicate};
+ghost use lib.ListN.{length, take, drop};
 ghost use Rattle.distance.specs.Distance.{euclidean};
-ghost use Rattle.stay.specs.Ordered.{inOrder, position, insertOrdered, median};
-ghost use Rattle.stay.specs.Regions.{shifted, insertBoth, middleIn, CanInsert};
-ghost use Rattle.stay.specs.Trace.{fixes};
-ghost use Rattle.stay.specs.Steps.{allMarked, elapsed, joinTest, stayTest, stateOf, kept, closed, step, Room, Ready};
-ghost use Rattle.stay.specs.Found.{Lengths, Found};
-
-// What decides joining and acceptance.
-pub struct StaySettings {
-    pub r1: f64,
-    pub min_size: usize,
-    pub min_staying_time: f64,
-    pub max_time_between: f64,
-}
+ghost use Rattle.stay.specs.StepsOrdered.{inOrder};
+ghost use Rattle.stay.specs.Ordered.{insertionPoint, insertOrdered, median};
+ghost use Rattle.stay.specs.StepsRegions.{shifted, insertBoth, middleIn, CanInsert};
+ghost use Rattle.trace.specs.Trace.{fixes};
+ghost use Rattle.stay.specs.Steps.{elapsed, joinTest, stayTest, stateOf, closedAs, closed, step, Room, Ready};
+ghost use Rattle.stay.specs.StepsFound.{Lengths, Found};
 
 // The open group: where it starts, and how many stays are before it.
 pub struct Open {
@@ -27,9 +23,9 @@ pub struct Open {
 }
 
 // The place past the elements that are at most elem, by halving.
-fn position(s: &[f64], elem: f64) -> usize
+fn insertion_point(s: &[f64], elem: f64) -> usize
     requires { ⌜ inOrder (now s) ≡ true ⌝ }
-    ensures { λ r. ⌜ r ≡ position elem (now (s .entry)) ⌝ }
+    ensures { λ r. ⌜ r ≡ insertionPoint elem (now (s .entry)) ⌝ }
 {
     if elem != elem {
         return s.len();
@@ -66,7 +62,7 @@ pub fn insert_ordered(arr: &mut [f64], len: usize, elem: f64)
     requires { ⌜ inOrder (take len (now arr)) ≡ true ⌝ }
     ensures { λ _. ⌜ now (arr .exit) ≡ insertOrdered elem (take len (now (arr .entry))) ++ drop (len + 1) (now (arr .entry)) ⌝ }
 {
-    let p = position(&arr[0..len], elem);
+    let p = insertion_point(&arr[0..len], elem);
     let e = len + 1;
     shift_in(&mut arr[0..e], p, elem);
 }
@@ -107,20 +103,6 @@ fn middle(work: &[f64], q: usize, len: usize) -> Point
     Point { x: x, y: y }
 }
 
-// Whether all marks are 1.
-fn all_marked(marks: &[u8]) -> bool
-    ensures { λ r. ⌜ r ≡ allMarked (now (marks .entry)) ⌝ }
-{
-    let mut i = 0;
-    while i < marks.len() {
-        if marks[i] != 1 {
-            return false;
-        }
-        i += 1;
-    }
-    true
-}
-
 // The time at b less that at a, where the trace is timed.
 fn elapsed(times: &[f64], timed: bool, a: usize, b: usize) -> f64
     requires { ⌜ (a < length (now times)) × (b < length (now times)) ⌝ }
@@ -133,7 +115,7 @@ fn elapsed(times: &[f64], timed: bool, a: usize, b: usize) -> f64
 }
 
 // Whether a fix at distance d, a time of gap after the last, joins.
-fn joins(timed: bool, s: StaySettings, d: f64, gap: f64) -> bool
+fn joins(timed: bool, s: Config, d: f64, gap: f64) -> bool
     ensures { λ r. ⌜ r ≡ joinTest timed s d gap ⌝ }
 {
     if d <= s.r1 {
@@ -146,7 +128,7 @@ fn joins(timed: bool, s: StaySettings, d: f64, gap: f64) -> bool
 }
 
 // Whether a closed group of n fixes over a time of span is a stay.
-fn is_stay(timed: bool, s: StaySettings, n: usize, span: f64) -> bool
+fn is_stay(timed: bool, s: Config, n: usize, span: f64) -> bool
     ensures { λ r. ⌜ r ≡ stayTest timed s n span ⌝ }
 {
     if s.min_size <= n {
@@ -156,17 +138,6 @@ fn is_stay(timed: bool, s: StaySettings, n: usize, span: f64) -> bool
         return true;
     }
     false
-}
-
-// v at every place.
-fn fill(s: &mut [i32], v: i32)
-    ensures { λ _. ⌜ now (s .exit) ≡ replicate (length (now (s .entry))) v ⌝ }
-{
-    let mut i = 0;
-    while i < s.len() {
-        s[i] = v;
-        i += 1;
-    }
 }
 
 // The group o closed before fix i, as a stay with the median m or as none.
@@ -180,12 +151,12 @@ fn keep(
     ok: bool,
 ) -> Open
     requires { ⌜ Room q i o (length (now work)) (length (now events)) ⌝ }
-    ensures { λ r. ⌜ stateOf q i (now (work .exit)) (now (events .exit)) r ≡ kept ok m i (stateOf q i (now (work .entry)) (now (events .entry)) o) ⌝ }
+    ensures { λ r. ⌜ stateOf q i (now (work .exit)) (now (events .exit)) r ≡ closedAs ok m i (stateOf q i (now (work .entry)) (now (events .entry)) o) ⌝ }
 {
     let start = o.start;
     let stays = o.stays;
     if ok {
-        fill(&mut events[start..i], stays as i32);
+        lists::fill(&mut events[start..i], stays as i32);
         let a = 2 * q + stays;
         let b = 3 * q + stays;
         work[a] = m.x;
@@ -195,7 +166,7 @@ fn keep(
             stays: stays + 1,
         };
     }
-    fill(&mut events[start..i], -1);
+    lists::fill(&mut events[start..i], -1);
     Open {
         start: i,
         stays: stays,
@@ -206,7 +177,7 @@ fn keep(
 fn close(
     times: &[f64],
     timed: bool,
-    s: StaySettings,
+    s: Config,
     work: &mut [f64],
     events: &mut [i32],
     q: usize,
@@ -229,7 +200,7 @@ fn next(
     p: Point,
     times: &[f64],
     timed: bool,
-    s: StaySettings,
+    s: Config,
     work: &mut [f64],
     events: &mut [i32],
     q: usize,
@@ -261,7 +232,7 @@ pub fn stays(
     ys: &[f64],
     times: &[f64],
     marks: &[u8],
-    s: StaySettings,
+    s: Config,
     work: &mut [f64],
     found: usize,
     events: &mut [i32],
@@ -274,7 +245,7 @@ pub fn stays(
         return 0;
     }
     let q = work.len() / 4;
-    let timed = all_marked(marks);
+    let timed = trace::all_marked(marks);
     insert_both(work, q, 0, Point { x: xs[0], y: ys[0] });
     let mut o = Open {
         start: 0,

@@ -1,9 +1,9 @@
--- What the program prints for what it heard on standard input. Definitions only.
+-- What the program prints for what it heard on standard input.
 use mathlib.Core.Path.{_≡_}
 use Prim.Native.Nat.{ℕ, _≤_}
 use mathlib.Core.List.{List}
 use lib.ListN.{length, take}
-use Rattle.tracks.specs.declared.refusal.Refusal.the-variants.{Text}
+use Rattle.settings.specs.declared.refusal.Refusal.the-variants.{Text}
 use Rattle.print.specs.Lines.{refusalText}
 use Rattle.input.specs.Calls.{Call, Heard, whole, broken, heard}
 use Rattle.reply.specs.Program.{programText}

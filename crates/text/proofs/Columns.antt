@@ -10,9 +10,10 @@ use lib.ListN.{length, length-append, set, take}
 use lib.Seq.{take-nil, set-set}
 use Rattle.lists.specs.Lists.{overlay}
 use Rattle.text.specs.Values.{FixLine}
-use Rattle.text.specs.Parsed.{into, firstFixes}
-use Rattle.text.specs.Steps.{more, kept}
-use Rattle.text.proofs.Contents.{note, countFrom}
+use Rattle.text.specs.Parsed.{into}
+use Rattle.text.specs.Pieces.{firstFixes}
+use Rattle.text.specs.Machine.{more, setIf}
+use Rattle.text.proofs.Noted.{note, countFrom}
 
 -- ---- how many of the first 768 are to come after n
 
@@ -50,17 +51,19 @@ module _ {A : Type 0} where
   into-last s l k a = ap (λ (r : List A). set r (length l) a) (sym (into-more s l k)) ∙ set-set (into s l) (length l) k a ∙ into-more s l a
 
   note-past : (f : FixLine → A) (ps : List FixLine) (l : List A) (n : ℕ) → 768 ≤ n → note f l n ps ≡ l
-  unfolding note kept
+  unfolding note setIf
   note-past f [] l n h = refl
   note-past f (p ∷ ps) l n h = rw (le-ltb n 768 h) (note-past f ps l (more n) (more-past n h))
 
   -- After n fixes, whose values `done` are in front.
-  note-into : (f : FixLine → A) (s : List A) (ps : List FixLine) (done : List A) (n : ℕ) → length done ≡ n → note f (into s done) n ps ≡ into s (done ++ map f (take (768 - n) ps))
-  unfolding note kept more
+  note-into : (f : FixLine → A) (s : List A) (ps : List FixLine) (done : List A) (n : ℕ) → length done ≡ n
+      → note f (into s done) n ps ≡ into s (done ++ map f (take (768 - n) ps))
+  unfolding note setIf more
   note-into f s [] done n e = rw (take-nil {A = FixLine} (768 - n), append-nil done)
   note-into f s (p ∷ ps) done n e = go (λ d. λ k. λ q. note-into f s ps d k q) (ltb n 768) refl
     where
-      go : ((d : List A) (k : ℕ) → length d ≡ k → note f (into s d) k ps ≡ into s (d ++ map f (take (768 - k) ps))) → (b : Bool) → ltb n 768 ≡ b → note f (kept b (into s done) n (f p)) (more n) ps ≡ into s (done ++ map f (take (768 - n) (p ∷ ps)))
+      go : ((d : List A) (k : ℕ) → length d ≡ k → note f (into s d) k ps ≡ into s (d ++ map f (take (768 - k) ps))) → (b : Bool) → ltb n 768 ≡ b
+          → note f (setIf b (into s done) n (f p)) (more n) ps ≡ into s (done ++ map f (take (768 - n) (p ∷ ps)))
       go i true h =
           let q : n < 768 = ltb-true n 768 h in
           let w : set (into s done) n (f p) ≡ into s (done ++ (f p ∷ [])) = ap (λ (k : ℕ). set (into s done) k (f p)) (sym e) ∙ into-more s done (f p) in

@@ -1,7 +1,8 @@
 -- A field in a text: `run` of `Steps` against `cut` of `Form`.
 use mathlib.Core.Path.{_≡_, refl, sym, ap, _∙_}
-use mathlib.Core.Bool.{Bool, true, false, cond, _&&_, _||_, not}
+use mathlib.Core.Bool.{Bool, true, false, cond, _&&_, _||_, not, and-false}
 use mathlib.Core.List.{List, [], _∷_}
+use mathlib.Core.Option.{Option, none, some, Option·map}
 use mathlib.Core.Logic.{_⊎_, inl, inr, ⊎-elim}
 use Prim.Native.Nat.{ℕ, _+_, _-_, _*_, _≤_}
 use native.Mathlib.Omega.{arith}
@@ -11,8 +12,8 @@ use Rattle.text.specs.declared.state.State.{State}
 use Rattle.text.proofs.Stages.{lexed-1, lexed-3, lexed-4, lexedSizes-1, lexedSizes-3, lexedSigns-1, lexedSigns-3}
 use Rattle.text.proofs.Numbers.{fieldBytes, refused-stays}
 use Rattle.text.specs.Bytes.{isDigit}
-use Rattle.text.specs.Form.{Cut, uncut, cutAt, cons, cut}
-use Rattle.text.specs.Steps.{Machine, refused, signed, grown, fieldByte, ends, endOf, rowByte, rowSizes, rowSigns, lexed, lexedSizes, lexedSigns, judged, setLine, fixLine, stored, kept, step, run, ended}
+use Rattle.text.specs.Form.{cut}
+use Rattle.text.specs.Machine.{Machine, refused, signed, grown, fieldByte, ends, endOf, rowByte, rowSizes, rowSigns, lexed, lexedSizes, lexedSigns, judged, setLine, fixLine, stored, setIf, step, run, ended}
 
 -- The machine at another state.
 unfoldable pub moved : Machine → State → Machine
@@ -35,10 +36,6 @@ set-other s h = simp (ne-eqb (s .stage) 1 h)
 pub fix-other : (s : State) → (s .stage ≡ 3 → ⊥) → fixLine s ≡ false
 unfolding fixLine
 fix-other s h = simp (ne-eqb (s .stage) 3 h)
-
-and-false : (a : Bool) → a && false ≡ false
-and-false true = refl
-and-false false = refl
 
 pub set-field : (s : State) → (s .k ≡ 7 → ⊥) → setLine s ≡ false
 unfolding setLine
@@ -73,7 +70,8 @@ byte-k s b = go (eqb b 45) (s .minus || s .digit) (isDigit b && leb (s .value * 
 byte-stage : (s : State) (b : ℕ) → (fieldByte s b .stage ≡ s .stage) ⊎ (fieldByte s b .stage ≡ 4)
 unfolding fieldByte refused signed grown
 byte-stage s b = go (eqb b 45) (s .minus || s .digit) (isDigit b && leb (s .value * 10 + (b - 48)) 1000000000) where
-  go : (t u v : Bool) → (cond t (cond u (refused s) (signed s)) (cond v (grown s (s .value * 10 + (b - 48))) (refused s)) .stage ≡ s .stage) ⊎ (cond t (cond u (refused s) (signed s)) (cond v (grown s (s .value * 10 + (b - 48))) (refused s)) .stage ≡ 4)
+  go : (t u v : Bool)
+      → (cond t (cond u (refused s) (signed s)) (cond v (grown s (s .value * 10 + (b - 48))) (refused s)) .stage ≡ s .stage) ⊎ (cond t (cond u (refused s) (signed s)) (cond v (grown s (s .value * 10 + (b - 48))) (refused s)) .stage ≡ 4)
   go true true v = inr refl
   go true false v = inl refl
   go false u true = inl refl
@@ -118,7 +116,7 @@ fix-line = record {
 module _ (g last : ℕ) (line : Line g last) where
   -- A byte that does not end the field.
   byte-step : (m : Machine) (b : ℕ) → m .at .stage ≡ g → m .at .k ≤ last → ends last (m .at) b ≡ false → step m b ≡ moved m (fieldByte (m .at) b)
-  unfolding step moved rowByte rowSizes rowSigns stored kept
+  unfolding step moved rowByte rowSizes rowSigns stored setIf
   byte-step m b e h n =
       let p : lexed (m .at) b ≡ fieldByte (m .at) b = line .lexes (m .at) b e ∙ rw n in
       let z : lexedSizes (m .at) b (m .sizes) ≡ m .sizes = line .sizes (m .at) b (m .sizes) e ∙ rw n in
@@ -137,16 +135,16 @@ blank-byte s b [] = byte-ended s b
 blank-byte s b (c ∷ t) = refl
 
 -- What a field's bytes f, with what follows them, say of the run; e ends the field.
-unfoldable pub Told : ℕ → ℕ → Machine → List ℕ → Cut → Type 0
-Told g e m t uncut = blank (m .at) t ≡ false → ends-well m t ≡ false
-Told g e m t (cutAt f r) = (fieldBytes (m .at) f .stage ≡ g → run m t ≡ run (step (moved m (fieldBytes (m .at) f)) e) r) × (fieldBytes (m .at) f .stage ≡ 4 → ends-well m t ≡ false)
+unfoldable pub Told : ℕ → ℕ → Machine → List ℕ → Option (List ℕ × List ℕ) → Type 0
+Told g e m t none = blank (m .at) t ≡ false → ends-well m t ≡ false
+Told g e m t (some (f, r)) = (fieldBytes (m .at) f .stage ≡ g → run m t ≡ run (step (moved m (fieldBytes (m .at) f)) e) r) × (fieldBytes (m .at) f .stage ≡ 4 → ends-well m t ≡ false)
 
 differ : {A : Type 0} (a b : ℕ) → (a ≡ b → ⊥) → {c : ℕ} → c ≡ a → c ≡ b → A
 differ a b h p q = absurd (h (sym p ∙ q))
 
 module _ (g last : ℕ) (line : Line g last) where
   pub told : (t : List ℕ) (m : Machine) (k : ℕ) → m .at .stage ≡ g → m .at .k ≡ k → k ≤ last → Told g (endOf last k) m t (cut (endOf last k) t)
-  unfolding Told cut cons ends-well run blank fieldBytes moved ends
+  unfolding Told cut ends-well run blank fieldBytes moved ends
   told [] m k e d h = λ q. q
   told (b ∷ t) m k e d h = go (eqb b (endOf last k)) refl (cut (endOf last k) t) (λ w. told t (moved m (fieldByte (m .at) b)) k w (byte-k (m .at) b ∙ d) h) where
     go-step : eqb b (endOf last k) ≡ false → step m b ≡ moved m (fieldByte (m .at) b)
@@ -155,13 +153,15 @@ module _ (g last : ℕ) (line : Line g last) where
     gone : {A : Type 0} (f : List ℕ) → fieldByte (m .at) b .stage ≡ 4 → fieldBytes (fieldByte (m .at) b) f .stage ≡ g → A
     gone f a w = differ 4 g (λ z. line .unlike (sym z)) (refused-stays (fieldByte (m .at) b) f a) w
 
-    go : (x : Bool) → eqb b (endOf last k) ≡ x → (c : Cut) → (fieldByte (m .at) b .stage ≡ g → Told g (endOf last k) (moved m (fieldByte (m .at) b)) t c) → Told g (endOf last k) m (b ∷ t) (cons x b t c)
+    go : (x : Bool) → eqb b (endOf last k) ≡ x → (c : Option (List ℕ × List ℕ))
+        → (fieldByte (m .at) b .stage ≡ g → Told g (endOf last k) (moved m (fieldByte (m .at) b)) t c)
+        → Told g (endOf last k) m (b ∷ t) (cond x (some ([], t)) (Option·map (λ (c : List ℕ × List ℕ). (b ∷ c .0, c .1)) c))
     go true q c i = (λ w. rw (eqb-true b (endOf last k) q), λ w. differ g 4 (line .unlike) e w)
-    go false q uncut i = λ y. ap (λ (n : Machine). ended (run n t .at)) (go-step q) ∙ (⊎-elim
+    go false q none i = λ y. ap (λ (n : Machine). ended (run n t .at)) (go-step q) ∙ (⊎-elim
         (λ a. i (a ∙ e) (blank-byte (m .at) b t))
         (λ a. stuck (moved m (fieldByte (m .at) b)) t a)
         (byte-stage (m .at) b))
-    go false q (cutAt f r) i = (
+    go false q (some (f, r)) i = (
       λ w. ap (λ (n : Machine). run n t) (go-step q) ∙ (⊎-elim (λ a. i (a ∙ e) .0 w) (λ a. gone f a w) (byte-stage (m .at) b)),
       λ w. ap (λ (n : Machine). ended (run n t .at)) (go-step q) ∙ (⊎-elim (λ a. i (a ∙ e) .1 w) (λ a. stuck (moved m (fieldByte (m .at) b)) t a) (byte-stage (m .at) b)),
     )

@@ -11,7 +11,7 @@ use Rattle.text.proofs.Fields.{moved, ends-well, settings-line, fix-lin
 use Rattle.text.proofs.Rows.{settle, finish, RowTold, row-told, tail}
 use Rattle.text.proofs.Judged.{Sound, sound}
 use Rattle.text.specs.Form.{settingNames, fixNames, rowOf, settingEnds, fixEnds}
-use Rattle.text.specs.Steps.{Machine, refused, begun, settingsOk, settled, fixOk, noted, counted, setLine, fixLine, judged, stored, kept, run, ended}
+use Rattle.text.specs.Machine.{Machine, refused, begun, settingsOk, settled, fixOk, noted, counted, setLine, fixLine, judged, stored, setIf, run, ended}
 
 pub fix-later : (s : State) (k : ℕ) → 7 ≤ k → ended (begun s 3 (suc k)) ≡ false
 unfolding ended begun
@@ -22,7 +22,8 @@ unfolding ended begun
 setting-later s k h = refl
 
 -- A fix line, judged.
-pub fix-at : (m : Machine) (s : State) (x : Bool) → fixOk (m .sizes) (m .signs) (begun s 3 11) ≡ x → finish 3 10 m s .at ≡ cond x (counted (getD (m .sizes) 7 0) (begun s 3 11)) (refused (begun s 3 11))
+pub fix-at : (m : Machine) (s : State) (x : Bool) → fixOk (m .sizes) (m .signs) (begun s 3 11) ≡ x
+    → finish 3 10 m s .at ≡ cond x (counted (getD (m .sizes) 7 0) (begun s 3 11)) (refused (begun s 3 11))
 unfolding finish settle judged setLine fixLine noted begun
 fix-at m s x e = rw e
 
@@ -67,7 +68,7 @@ unfolding settingNames
 setting-names-long = omega arith
 
 pub settings-on : (m : Machine) (s : State) → settingsOk (m .sizes) (m .signs) ≡ true → finish 1 6 m s ≡ moved m (begun s 2 0)
-unfolding finish settle judged setLine fixLine settled stored kept begun moved
+unfolding finish settle judged setLine fixLine settled stored setIf begun moved
 settings-on m s e = rw e
 
 pub settings-off : (m : Machine) (s : State) → settingsOk (m .sizes) (m .signs) ≡ false → finish 1 6 m s .at .stage ≡ 4

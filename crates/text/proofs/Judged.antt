@@ -2,6 +2,7 @@
 use mathlib.Core.Path.{_≡_, refl, _∙_}
 use mathlib.Core.Bool.{Bool, true, false, cond, _&&_, not}
 use mathlib.Core.List.{List, [], _∷_}
+use mathlib.Core.Option.{Option, none, some, bind, Option·map}
 use Prim.Native.Nat.{ℕ, zero, suc, _+_, _≤_, _<_}
 use native.Mathlib.Omega.{arith}
 use borrow.Author.Tests.{le-leb, leb-true}
@@ -10,10 +11,10 @@ use lib.ListN.{length, getD, length-set}
 use lib.Seq.{getD-set-same, getD-set-other}
 use Rattle.text.specs.declared.state.State.{State}
 use Rattle.text.proofs.Numbers.{signOf}
-use Rattle.text.proofs.Rows.{filled, filledAll}
+use Rattle.text.proofs.Rows.{fieldNoted, fieldsNoted, Row, add}
 use Rattle.text.specs.Fields.{Field, number, dash, bad, allDigits, sizeFrom, digitsOf, afterMinus, fieldOf, sizeOf, isWhole, isNatural, isField}
-use Rattle.text.specs.Form.{Cut, uncut, cutAt, cons, cut, Row, noRow, row, add, rowIf, put, rowAfter, rowOf, settingsIn, fixIn}
-use Rattle.text.specs.Steps.{Machine, settingsOk, fixOk}
+use Rattle.text.specs.Form.{onlyIf, cut, rowOf, settingsIn, fixIn}
+use Rattle.text.specs.Machine.{Machine, settingsOk, fixOk}
 
 -- ---- what a line holds
 
@@ -38,18 +39,18 @@ field-small (b ∷ bs) = go (eqb b 45) where
   go true = minus-small bs
   go false = digits-small false (b ∷ bs)
 
-Shorter : List ℕ → Cut → Type 0
-Shorter t uncut = Unit
-Shorter t (cutAt f r) = length r + 1 ≤ length t
+Shorter : List ℕ → Option (List ℕ × List ℕ) → Type 0
+Shorter t none = Unit
+Shorter t (some (f, r)) = length r + 1 ≤ length t
 
 shorter : (e : ℕ) (t : List ℕ) → Shorter t (cut e t)
-unfolding Shorter cut cons
+unfolding Shorter cut
 shorter e [] = tt
 shorter e (b ∷ t) = go (eqb b e) (cut e t) (shorter e t) where
-  go : (x : Bool) (c : Cut) → Shorter t c → Shorter (b ∷ t) (cons x b t c)
+  go : (x : Bool) (c : Option (List ℕ × List ℕ)) → Shorter t c → Shorter (b ∷ t) (cond x (some ([], t)) (Option·map (λ (c : List ℕ × List ℕ). (b ∷ c .0, c .1)) c))
   go true c i = omega arith
-  go false uncut i = tt
-  go false (cutAt f r) i = omega arith
+  go false none i = tt
+  go false (some (f, r)) i = omega arith
 
 unfoldable pub Small : List Field → Type 0
 Small [] = Unit
@@ -57,63 +58,67 @@ Small (F ∷ fs) = (sizeOf F ≤ 1000000000) × Small fs
 
 -- There are n fields, and what follows is shorter by as many bytes at least.
 unfoldable pub Sound : ℕ → List ℕ → Row → Type 0
-Sound n t noRow = Unit
-Sound n t (row fs r) = (length fs ≡ n) × (length r + n ≤ length t) × Small fs
+Sound n t none = Unit
+Sound n t (some (fs, r)) = (length fs ≡ n) × (length r + n ≤ length t) × Small fs
 
-put-sound : (n : ℕ) (t f r : List ℕ) (R : Row) → length r + 1 ≤ length t → Sound n r R → Sound (suc n) t (put (fieldOf f) R)
-unfolding put rowIf add Sound Small
+put-sound : (n : ℕ) (t f r : List ℕ) (R : Row) → length r + 1 ≤ length t → Sound n r R → Sound (suc n) t (onlyIf (isField (fieldOf f)) (add (fieldOf f) R))
+unfolding onlyIf Sound Small
 put-sound n t f r R h i = go (isField (fieldOf f)) R i where
-  go : (x : Bool) (R : Row) → Sound n r R → Sound (suc n) t (rowIf x (add (fieldOf f) R))
-  go true noRow i = tt
-  go true (row fs q) i = (omega (arith, i .0), omega (arith, i .1), (field-small f, i .2))
+  go : (x : Bool) (R : Row) → Sound n r R → Sound (suc n) t (onlyIf x (add (fieldOf f) R))
+  go true none i = tt
+  go true (some (fs, q)) i = (omega (arith, i .0), omega (arith, i .1), (field-small f, i .2))
   go false R i = tt
 
 pub sound : (es t : List ℕ) → Sound (length es) t (rowOf es t)
-unfolding rowOf rowAfter Sound Small Shorter
+unfolding rowOf bind Sound Small Shorter
 sound [] t = (refl, omega arith, tt)
 sound (e ∷ es) t = go (λ r. sound es r) (cut e t) (shorter e t) where
-  go : ((r : List ℕ) → Sound (length es) r (rowOf es r)) → (c : Cut) → Shorter t c → Sound (suc (length es)) t (rowAfter c (rowOf es))
-  go i uncut h = tt
-  go i (cutAt f r) h = put-sound (length es) t f r (rowOf es r) h (i r)
+  go : ((r : List ℕ) → Sound (length es) r (rowOf es r)) → (c : Option (List ℕ × List ℕ)) → Shorter t c
+      → Sound (suc (length es)) t (bind c (λ c. onlyIf (isField (fieldOf (c .0))) (add (fieldOf (c .0)) (rowOf es (c .1)))))
+  go i none h = tt
+  go i (some (f, r)) h = put-sound (length es) t f r (rowOf es r) h (i r)
 
 -- ---- how it is noted
 
-pub size-before : (fs : List Field) (m : Machine) (k j : ℕ) → j < k → getD (filledAll m k fs .sizes) j 0 ≡ getD (m .sizes) j 0
-unfolding filledAll filled
+pub size-before : (fs : List Field) (m : Machine) (k j : ℕ) → j < k → getD (fieldsNoted m k fs .sizes) j 0 ≡ getD (m .sizes) j 0
+unfolding fieldsNoted fieldNoted
 size-before [] m k j h = refl
-size-before (F ∷ fs) m k j h = size-before fs (filled m k F) (suc k) j (omega arith) ∙ getD-set-other (m .sizes) k j (sizeOf F) 0 (λ q. omega arith)
+size-before (F ∷ fs) m k j h = size-before fs (fieldNoted m k F) (suc k) j (omega arith) ∙ getD-set-other (m .sizes) k j (sizeOf F) 0 (λ q. omega arith)
 
-pub size-noted : (fs : List Field) (m : Machine) (k i : ℕ) → i < length fs → k + length fs ≤ length (m .sizes) → getD (filledAll m k fs .sizes) (k + i) 0 ≡ sizeOf (getD fs i bad)
-unfolding filledAll filled
+pub size-noted : (fs : List Field) (m : Machine) (k i : ℕ) → i < length fs → k + length fs ≤ length (m .sizes)
+    → getD (fieldsNoted m k fs .sizes) (k + i) 0 ≡ sizeOf (getD fs i bad)
+unfolding fieldsNoted fieldNoted
 size-noted [] m k i h l = absurd (omega arith)
 size-noted (F ∷ fs) m k zero h l =
     let p : k + 0 ≡ k = omega arith in
-    rw p (size-before fs (filled m k F) (suc k) k (omega arith) ∙ getD-set-same (m .sizes) k (sizeOf F) 0 (omega arith))
+    rw p (size-before fs (fieldNoted m k F) (suc k) k (omega arith) ∙ getD-set-same (m .sizes) k (sizeOf F) 0 (omega arith))
 size-noted (F ∷ fs) m k (suc i) h l =
     let p : k + suc i ≡ suc k + i = omega arith in
     let q = length-set (m .sizes) k (sizeOf F) in
-    rw p (size-noted fs (filled m k F) (suc k) i (omega arith) (omega arith))
+    rw p (size-noted fs (fieldNoted m k F) (suc k) i (omega arith) (omega arith))
 
-pub sign-before : (fs : List Field) (m : Machine) (k j : ℕ) → j < k → getD (filledAll m k fs .signs) j 0 ≡ getD (m .signs) j 0
-unfolding filledAll filled
+pub sign-before : (fs : List Field) (m : Machine) (k j : ℕ) → j < k → getD (fieldsNoted m k fs .signs) j 0 ≡ getD (m .signs) j 0
+unfolding fieldsNoted fieldNoted
 sign-before [] m k j h = refl
-sign-before (F ∷ fs) m k j h = sign-before fs (filled m k F) (suc k) j (omega arith) ∙ getD-set-other (m .signs) k j (signOf F) 0 (λ q. omega arith)
+sign-before (F ∷ fs) m k j h = sign-before fs (fieldNoted m k F) (suc k) j (omega arith) ∙ getD-set-other (m .signs) k j (signOf F) 0 (λ q. omega arith)
 
-pub sign-noted : (fs : List Field) (m : Machine) (k i : ℕ) → i < length fs → k + length fs ≤ length (m .signs) → getD (filledAll m k fs .signs) (k + i) 0 ≡ signOf (getD fs i bad)
-unfolding filledAll filled
+pub sign-noted : (fs : List Field) (m : Machine) (k i : ℕ) → i < length fs → k + length fs ≤ length (m .signs)
+    → getD (fieldsNoted m k fs .signs) (k + i) 0 ≡ signOf (getD fs i bad)
+unfolding fieldsNoted fieldNoted
 sign-noted [] m k i h l = absurd (omega arith)
 sign-noted (F ∷ fs) m k zero h l =
     let p : k + 0 ≡ k = omega arith in
-    rw p (sign-before fs (filled m k F) (suc k) k (omega arith) ∙ getD-set-same (m .signs) k (signOf F) 0 (omega arith))
+    rw p (sign-before fs (fieldNoted m k F) (suc k) k (omega arith) ∙ getD-set-same (m .signs) k (signOf F) 0 (omega arith))
 sign-noted (F ∷ fs) m k (suc i) h l =
     let p : k + suc i ≡ suc k + i = omega arith in
     let q = length-set (m .signs) k (signOf F) in
-    rw p (sign-noted fs (filled m k F) (suc k) i (omega arith) (omega arith))
+    rw p (sign-noted fs (fieldNoted m k F) (suc k) i (omega arith) (omega arith))
 
-pub sizes-length : (fs : List Field) (m : Machine) (k : ℕ) → (length (filledAll m k fs .sizes) ≡ length (m .sizes)) × (length (filledAll m k fs .signs) ≡ length (m .signs))
-unfolding filledAll filled
+pub sizes-length : (fs : List Field) (m : Machine) (k : ℕ)
+    → (length (fieldsNoted m k fs .sizes) ≡ length (m .sizes)) × (length (fieldsNoted m k fs .signs) ≡ length (m .signs))
+unfolding fieldsNoted fieldNoted
 sizes-length [] m k = (refl, refl)
-sizes-length (F ∷ fs) m k = let i = sizes-length fs (filled m k F) (suc k) in (i .0 ∙ length-set (m .sizes) k (sizeOf F), i .1 ∙ length-set (m .signs) k (signOf F))
+sizes-length (F ∷ fs) m k = let i = sizes-length fs (fieldNoted m k F) (suc k) in (i .0 ∙ length-set (m .sizes) k (sizeOf F), i .1 ∙ length-set (m .signs) k (signOf F))
 
 -- ---- how it is judged
 
@@ -131,7 +136,8 @@ natural-sign (number false v) = refl
 natural-sign dash = refl
 natural-sign bad = refl
 
-pub settings-judged : (fs : List Field) (m : Machine) → length fs ≡ 7 → length (m .sizes) ≡ 11 → length (m .signs) ≡ 11 → settingsOk (filledAll m 0 fs .sizes) (filledAll m 0 fs .signs) ≡ settingsIn fs
+pub settings-judged : (fs : List Field) (m : Machine) → length fs ≡ 7 → length (m .sizes) ≡ 11 → length (m .signs) ≡ 11
+    → settingsOk (fieldsNoted m 0 fs .sizes) (fieldsNoted m 0 fs .signs) ≡ settingsIn fs
 unfolding settingsOk settingsIn
 settings-judged fs m l z y =
     rw (
@@ -157,7 +163,8 @@ unfolding Small sizeOf
 first-small [] h = omega arith
 first-small (F ∷ fs) h = h .0
 
-pub fix-judged : (fs : List Field) (m : Machine) (s : State) → length fs ≡ 4 → Small fs → length (m .sizes) ≡ 11 → length (m .signs) ≡ 11 → fixOk (filledAll m 7 fs .sizes) (filledAll m 7 fs .signs) s ≡ fixIn (s .traces) fs
+pub fix-judged : (fs : List Field) (m : Machine) (s : State) → length fs ≡ 4 → Small fs → length (m .sizes) ≡ 11 → length (m .signs) ≡ 11
+    → fixOk (fieldsNoted m 7 fs .sizes) (fieldsNoted m 7 fs .signs) s ≡ fixIn (s .traces) fs
 unfolding fixOk fixIn
 fix-judged fs m s l h z y =
     rw (

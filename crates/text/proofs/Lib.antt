@@ -6,8 +6,9 @@ pub mod Rows
 pub mod Names
 pub mod Judged
 pub mod Finished
-pub mod InForm
-pub mod Contents
+pub mod TracesRise
+pub mod Noted
+pub mod Reading
 pub mod Columns
 pub mod Lengths
 pub mod Pieces

@@ -12,14 +12,14 @@ use Rattle.text.specs.declared.state.State.{State}
 use Rattle.text.specs.Bytes.{isDigit}
 use Rattle.text.specs.Fields.{Field, number, dash, bad, allDigits, sizeFrom, digitsOf, afterMinus, fieldOf, sizeOf}
 use Rattle.text.specs.Facts
-use Rattle.text.specs.Steps.{refused, begun, signed, grown, fieldByte, fieldSign}
+use Rattle.text.specs.Machine.{refused, begun, signed, grown, fieldByte, fieldSign}
 
 -- The bytes of a field.
 unfoldable pub fieldBytes : State → List ℕ → State
 fieldBytes s [] = s
 fieldBytes s (b ∷ bs) = fieldBytes (fieldByte s b) bs
 
-digit-low : (b : ℕ) → isDigit b ≡ true → 48 ≤ b
+pub digit-low : (b : ℕ) → isDigit b ≡ true → 48 ≤ b
 unfolding isDigit
 digit-low b h = leb-true 48 b (and-left (leb 48 b) (leb b 57) h)
 
@@ -35,7 +35,9 @@ digit-over s b h l = let k = digit-low b h in simp (ne-eqb b 45 (λ e. omega ari
 digit-not : (s : State) (b : ℕ) → s .minus || s .digit ≡ true → isDigit b ≡ false → fieldByte s b ≡ refused s
 unfolding fieldByte
 digit-not s b m h = go (eqb b 45) refl where
-  go : (t : Bool) → eqb b 45 ≡ t → cond t (cond (s .minus || s .digit) (refused s) (signed s)) (cond (isDigit b && leb (s .value * 10 + (b - 48)) 1000000000) (grown s (s .value * 10 + (b - 48))) (refused s)) ≡ refused s
+  go : (t : Bool) → eqb b 45 ≡ t
+      → cond t (cond (s .minus || s .digit) (refused s) (signed s)) (cond (isDigit b && leb (s .value * 10 + (b - 48)) 1000000000) (grown s (s .value * 10 + (b - 48))) (refused s))
+      ≡ refused s
   go true e = rw m
   go false e = rw h
 
@@ -61,7 +63,8 @@ raises v [] = omega arith
 raises v (b ∷ bs) = let r = raises (v * 10 + (b - 48)) bs in omega arith
 
 -- Digits that write a number of size at most 10^9.
-pub good : (s : State) (b : ℕ) (bs : List ℕ) → allDigits (b ∷ bs) ≡ true → sizeFrom (s .value) (b ∷ bs) ≤ 1000000000 → fieldBytes s (b ∷ bs) ≡ grown s (sizeFrom (s .value) (b ∷ bs))
+pub good : (s : State) (b : ℕ) (bs : List ℕ) → allDigits (b ∷ bs) ≡ true → sizeFrom (s .value) (b ∷ bs) ≤ 1000000000
+    → fieldBytes s (b ∷ bs) ≡ grown s (sizeFrom (s .value) (b ∷ bs))
 unfolding fieldBytes allDigits sizeFrom grown
 good s b [] d l = digit-on s b (and-left (isDigit b) true d) l
 good s b (c ∷ cs) d l =
@@ -71,11 +74,13 @@ good s b (c ∷ cs) d l =
     ap (λ (q : State). fieldBytes q (c ∷ cs)) o ∙ good (grown s v) c cs (and-right (isDigit b) (allDigits (c ∷ cs)) d) l
 
 -- Bytes that do not, after a minus or a digit.
-pub ill : (s : State) (bs : List ℕ) → s .minus || s .digit ≡ true → s .value ≤ 1000000000 → (allDigits bs ≡ true → sizeFrom (s .value) bs ≤ 1000000000 → ⊥) → fieldBytes s bs .stage ≡ 4
+pub ill : (s : State) (bs : List ℕ) → s .minus || s .digit ≡ true → s .value ≤ 1000000000 → (allDigits bs ≡ true → sizeFrom (s .value) bs ≤ 1000000000 → ⊥)
+    → fieldBytes s bs .stage ≡ 4
 unfolding fieldBytes allDigits sizeFrom refused grown
 ill s [] m l h = absurd (h refl l)
 ill s (b ∷ bs) m l h = go (λ q. λ p. λ k. λ z. ill q bs p k z) (isDigit b) (leb (s .value * 10 + (b - 48)) 1000000000) refl refl where
-  go : ((q : State) → q .minus || q .digit ≡ true → q .value ≤ 1000000000 → (allDigits bs ≡ true → sizeFrom (q .value) bs ≤ 1000000000 → ⊥) → fieldBytes q bs .stage ≡ 4) → (t u : Bool) → isDigit b ≡ t → leb (s .value * 10 + (b - 48)) 1000000000 ≡ u → fieldBytes (fieldByte s b) bs .stage ≡ 4
+  go : ((q : State) → q .minus || q .digit ≡ true → q .value ≤ 1000000000 → (allDigits bs ≡ true → sizeFrom (q .value) bs ≤ 1000000000 → ⊥) → fieldBytes q bs .stage ≡ 4)
+      → (t u : Bool) → isDigit b ≡ t → leb (s .value * 10 + (b - 48)) 1000000000 ≡ u → fieldBytes (fieldByte s b) bs .stage ≡ 4
   go i false u e f = rw (digit-not s b m e) (refused-stays (refused s) bs refl)
   go i true false e f = rw (digit-over s b e (leb-false _ _ f)) (refused-stays (refused s) bs refl)
   go i true true e f =
@@ -94,7 +99,8 @@ unfolding fieldByte
 other-first s b n h = simp (n, h)
 
 -- A first byte that is no minus, of a field that is no number.
-first-ill : (s : State) (b : ℕ) (bs : List ℕ) → s .value ≡ 0 → eqb b 45 ≡ false → allDigits (b ∷ bs) && leb (sizeFrom 0 (b ∷ bs)) 1000000000 ≡ false → fieldBytes s (b ∷ bs) .stage ≡ 4
+first-ill : (s : State) (b : ℕ) (bs : List ℕ) → s .value ≡ 0 → eqb b 45 ≡ false → allDigits (b ∷ bs) && leb (sizeFrom 0 (b ∷ bs)) 1000000000 ≡ false
+    → fieldBytes s (b ∷ bs) .stage ≡ 4
 unfolding fieldBytes allDigits sizeFrom refused grown
 first-ill s b bs z n e = go (isDigit b) refl where
   go : (t : Bool) → isDigit b ≡ t → fieldBytes (fieldByte s b) bs .stage ≡ 4
@@ -129,14 +135,19 @@ unfoldable pub Reads : State → ℕ → ℕ → Field → State → Type 0
 Reads s g k F S = Ok s g k F S ⊎ ((F ≡ bad) × (S .stage ≡ 4))
 
 module _ (s : State) (g k : ℕ) where
-  ok-grown : (q : State) (neg : Bool) (v : ℕ) → q .minus ≡ neg → q .stage ≡ g → q .k ≡ k → ((h j : ℕ) → begun q h j ≡ begun s h j) → Ok s g k (number (neg && not (eqb v 0)) v) (grown q v)
+  ok-grown : (q : State) (neg : Bool) (v : ℕ) → q .minus ≡ neg → q .stage ≡ g → q .k ≡ k → ((h j : ℕ) → begun q h j ≡ begun s h j)
+      → Ok s g k (number (neg && not (eqb v 0)) v) (grown q v)
   unfolding fieldSign signOf sizeOf grown begun
   ok-grown q neg v m w y c = record { sign = rw m; size = refl; stage = w; field = y; same = c }
 
-  digits-read : (q : State) (neg : Bool) (b : ℕ) (bs : List ℕ) → q .value ≡ 0 → q .minus ≡ neg → q .stage ≡ g → q .k ≡ k → ((h j : ℕ) → begun q h j ≡ begun s h j) → (allDigits (b ∷ bs) && leb (sizeFrom 0 (b ∷ bs)) 1000000000 ≡ false → fieldBytes q (b ∷ bs) .stage ≡ 4) → Reads s g k (digitsOf neg (b ∷ bs)) (fieldBytes q (b ∷ bs))
+  digits-read : (q : State) (neg : Bool) (b : ℕ) (bs : List ℕ) → q .value ≡ 0 → q .minus ≡ neg → q .stage ≡ g → q .k ≡ k
+      → ((h j : ℕ) → begun q h j ≡ begun s h j) → (allDigits (b ∷ bs) && leb (sizeFrom 0 (b ∷ bs)) 1000000000 ≡ false → fieldBytes q (b ∷ bs) .stage ≡ 4)
+      → Reads s g k (digitsOf neg (b ∷ bs)) (fieldBytes q (b ∷ bs))
   unfolding Reads digitsOf
   digits-read q neg b bs z m w y c h = go (allDigits (b ∷ bs) && leb (sizeFrom 0 (b ∷ bs)) 1000000000) refl where
-    go : (t : Bool) → allDigits (b ∷ bs) && leb (sizeFrom 0 (b ∷ bs)) 1000000000 ≡ t → Ok s g k (cond t (number (neg && not (eqb (sizeFrom 0 (b ∷ bs)) 0)) (sizeFrom 0 (b ∷ bs))) bad) (fieldBytes q (b ∷ bs)) ⊎ ((cond t (number (neg && not (eqb (sizeFrom 0 (b ∷ bs)) 0)) (sizeFrom 0 (b ∷ bs))) bad ≡ bad) × (fieldBytes q (b ∷ bs) .stage ≡ 4))
+    go : (t : Bool) → allDigits (b ∷ bs) && leb (sizeFrom 0 (b ∷ bs)) 1000000000 ≡ t
+        → Ok s g k (cond t (number (neg && not (eqb (sizeFrom 0 (b ∷ bs)) 0)) (sizeFrom 0 (b ∷ bs))) bad) (fieldBytes q (b ∷ bs))
+        ⊎ ((cond t (number (neg && not (eqb (sizeFrom 0 (b ∷ bs)) 0)) (sizeFrom 0 (b ∷ bs))) bad ≡ bad) × (fieldBytes q (b ∷ bs) .stage ≡ 4))
     go true e =
         let l : sizeFrom (q .value) (b ∷ bs) ≤ 1000000000 = rw z (leb-true _ _ (and-right (allDigits (b ∷ bs)) (leb (sizeFrom 0 (b ∷ bs)) 1000000000) e)) in
         let p : fieldBytes q (b ∷ bs) ≡ grown q (sizeFrom 0 (b ∷ bs)) = good q b bs (and-left (allDigits (b ∷ bs)) (leb (sizeFrom 0 (b ∷ bs)) 1000000000) e) l ∙ ap (λ (v : ℕ). grown q (sizeFrom v (b ∷ bs))) z in
@@ -147,7 +158,10 @@ module _ (s : State) (g k : ℕ) where
   minus-read : (bs : List ℕ) → Reads s g k (afterMinus bs) (fieldBytes (signed (begun s g k)) bs)
   unfolding Reads afterMinus fieldBytes signed begun fieldSign signOf sizeOf
   minus-read [] = inl (record { sign = refl; size = refl; stage = refl; field = refl; same = λ h. λ j. refl })
-  minus-read (d ∷ ds) = digits-read (signed (begun s g k)) true d ds refl refl refl refl (λ h. λ j. refl) (λ e. ill (signed (begun s g k)) (d ∷ ds) refl (omega arith) (λ a. λ z. clash (allDigits (d ∷ ds) && leb (sizeFrom 0 (d ∷ ds)) 1000000000) (both (allDigits (d ∷ ds)) (leb (sizeFrom 0 (d ∷ ds)) 1000000000) a (le-leb _ _ z)) e))
+  minus-read (d ∷ ds) =
+      digits-read (signed (begun s g k)) true d ds refl refl refl refl (λ h. λ j. refl)
+      (λ e. ill (signed (begun s g k)) (d ∷ ds) refl (omega arith)
+      (λ a. λ z. clash (allDigits (d ∷ ds) && leb (sizeFrom 0 (d ∷ ds)) 1000000000) (both (allDigits (d ∷ ds)) (leb (sizeFrom 0 (d ∷ ds)) 1000000000) a (le-leb _ _ z)) e))
 
   -- A first byte that is no minus.
   first-read : (b : ℕ) (bs : List ℕ) → eqb b 45 ≡ false → Reads s g k (digitsOf false (b ∷ bs)) (fieldBytes (begun s g k) (b ∷ bs))

@@ -1,7 +1,8 @@
 -- A text in pieces is the text in one piece; what the machine holds at its end is what the text says.
 use mathlib.Core.Path.{_≡_, refl, sym, ap, subst, _∙_}
-use mathlib.Core.Bool.{Bool, true, false}
-use mathlib.Core.List.{List, [], _++_, map}
+use mathlib.Core.Bool.{Bool, true, false, false≢true}
+use mathlib.Core.List.{List, [], map}
+use mathlib.Core.Option.{Option, none, some}
 use Prim.Native.Nat.{ℕ, _≤_, _<_}
 use native.Mathlib.Omega.{arith}
 use borrow.Author.Tests.{ltb-true, ltb-false}
@@ -10,48 +11,48 @@ use lib.ListN.{length, getD, replicate, take}
 use lib.Seq.{take-all}
 use lib.Ieee.{Float}
 use Rattle.lists.proofs.Tests.{clash}
-use Rattle.tracks.specs.declared.config.Config.{Config}
-use Rattle.tracks.specs.declared.refusal.Checked.{Checked}
-use Rattle.tracks.specs.declared.refusal.Checked.the-variants.{Accepted, Refused as failed}
-use Rattle.tracks.specs.Settings.{checkConfig}
+use Rattle.settings.specs.declared.config.Config.{Config}
+use Rattle.settings.specs.declared.refusal.Refusal.the-variants.{Text}
+use Rattle.settings.specs.declared.refusal.Checked.{Checked}
+use Rattle.settings.specs.declared.refusal.Checked.the-variants.{Accepted, Refused as failed}
+use Rattle.settings.specs.Settings.{checkConfig}
 use Rattle.text.specs.declared.Reader.{Reader}
 use Rattle.text.specs.declared.Parsed.{Parsed}
 use Rattle.text.specs.declared.Parsed.the-variants.{Tracks, Refused}
 use Rattle.text.specs.Fields.{Field, bad, sizeOf}
-use Rattle.text.specs.Form.{Lines, noLines, lines, linesOf, areLines, inForm}
-use Rattle.text.specs.Values.{FixLine, configOf, fixOf, Read, outside, inside, valuesOf, read, xsOf, ysOf, timesOf, marksOf, lengthsOf, Rising}
-use Rattle.text.specs.Parsed.{tooMany, unlessMany, taken, parsed, into, firstFixes, isTaken, filled, Parses}
-use Rattle.text.specs.Steps.{Machine, run, initial, ended}
-use Rattle.text.specs.Pieces.{startReader, holding, configIn, finishedIf, finished, Fed, ReadAs}
+use Rattle.text.specs.Form.{Lines, linesOf}
+use Rattle.text.specs.Values.{FixLine, configOf, fixOf, Read, outside, inside, valuesOf, read, lengthsOf, Columns, columns}
+use Rattle.text.proofs.TracesRise.{TracesRise}
+use Rattle.text.specs.Parsed.{tooMany, unlessMany, atMost768, parsed, withColumns, filled, Parses}
+use Rattle.text.specs.Machine.{Machine, machine, run, initial, ended, startReader, holding, Fed, configIn, isTaken}
+use Rattle.text.specs.Pieces.{firstFixes, finishedIf, finished, ReadAs, Starts, Feeds, Finishes}
 use Rattle.text.proofs.Numbers.{signOf}
 use Rattle.text.proofs.Run.{run-parts}
-use Rattle.text.proofs.InForm.{form-theorem}
-use Rattle.text.proofs.Contents.{countFrom, Contents, float-noted, contents-theorem}
+use Rattle.text.proofs.Noted.{countFrom, Contents, float-noted}
+use Rattle.text.proofs.Reading.{Says, text-read}
 use Rattle.text.proofs.Columns.{noted-into, count-few, count-many}
 use Rattle.text.proofs.Lengths.{traces-counted, lens-noted}
 
+-- What is outside the form is not inside it.
+not-inside : {A : Type 0} (s : Config) (ls : List FixLine) → _≡_ {A = Read} outside (inside s ls) → A
+not-inside s ls q = absurd (let z : _≡_ {A = ℕ} 0 1 = cc in omega arith)
+
 -- ---- pieces
 
-module _ {xs ys times : List Float} {marks lens : List ℕ} where
-  -- `start`: nothing was read.
-  pub fed-start : {r : Reader} → r ≡ startReader → Fed xs ys times marks lens [] r xs ys times marks lens
-  unfolding run
-  fed-start p = record { fed = ap (λ (r : Reader). holding r xs ys times marks lens) p }
+-- `start`: nothing was read.
+pub fed-start : {r : Reader} → r ≡ startReader → Starts r
+unfolding run
+fed-start p = record { equation = p; start = λ c. record { fed = ap (λ (r : Reader). holding r c) p } }
 
-  -- `feed`: the next piece was read too.
-  pub fed-more : {t : List ℕ} (u : List ℕ) {r q : Reader} {xs₁ ys₁ times₁ xs₂ ys₂ times₂ : List Float} {marks₁ lens₁ marks₂ lens₂ : List ℕ}
-      → Fed xs ys times marks lens t r xs₁ ys₁ times₁ marks₁ lens₁
-      → holding q xs₂ ys₂ times₂ marks₂ lens₂ ≡ run (holding r xs₁ ys₁ times₁ marks₁ lens₁) u
-      → Fed xs ys times marks lens (t ++ u) q xs₂ ys₂ times₂ marks₂ lens₂
-  fed-more {t} u f e = record { fed = e ∙ ap (λ (m : Machine). run m u) (f .fed) ∙ sym (run-parts (holding startReader xs ys times marks lens) t u) }
-
-  -- One piece from the start.
-  pub fed-whole : {t : List ℕ} {s r : Reader} {xs' ys' times' : List Float} {marks' lens' : List ℕ} → s ≡ startReader → holding r xs' ys' times' marks' lens' ≡ run (holding s xs ys times marks lens) t → Fed xs ys times marks lens t r xs' ys' times' marks' lens'
-  fed-whole {t} p e = record { fed = e ∙ ap (λ (s : Reader). run (holding s xs ys times marks lens) t) p }
+-- `feed`: the next piece was read too.
+pub fed-more : {u : List ℕ} {r q : Reader} {c c' : Columns} → holding q c' ≡ run (holding r c) u → Feeds u r c q c'
+fed-more {u} {r} {q} {c} {c'} e =
+    record { equation = e; more = λ {first} {t} f. record { fed = e ∙ ap (λ (m : Machine). run m u) (f .fed) ∙ sym (run-parts (holding startReader first) t u) } }
 
 -- ---- the settings
 
-config-read : (f : List Field) (sizes signs : List ℕ) → ((i : ℕ) → i < 7 → getD sizes i 0 ≡ sizeOf (getD f i bad)) → ((i : ℕ) → i < 7 → getD signs i 0 ≡ signOf (getD f i bad)) → configIn sizes signs ≡ configOf f
+config-read : (f : List Field) (sizes signs : List ℕ) → ((i : ℕ) → i < 7 → getD sizes i 0 ≡ sizeOf (getD f i bad))
+    → ((i : ℕ) → i < 7 → getD signs i 0 ≡ signOf (getD f i bad)) → configIn sizes signs ≡ configOf f
 unfolding configIn configOf
 config-read f sizes signs z g =
     rw (
@@ -73,9 +74,9 @@ config-read f sizes signs z g =
     )
 
 -- 769 stands for more than 768.
-taken-count : (c : Config) (ps : List FixLine) (k : ℕ) → taken c (countFrom 0 ps) k ≡ taken c (length ps) k
-unfolding taken unlessMany
-taken-count c ps k = go (ltb 768 (length ps)) refl
+many-counted : (c : Config) (ps : List FixLine) (k : ℕ) → atMost768 c (countFrom 0 ps) k ≡ atMost768 c (length ps) k
+unfolding atMost768 unlessMany
+many-counted c ps k = go (ltb 768 (length ps)) refl
   where
     go : (b : Bool) → ltb 768 (length ps) ≡ b → unlessMany (ltb 768 (countFrom 0 ps)) c (countFrom 0 ps) k ≡ unlessMany (ltb 768 (length ps)) c (length ps) k
     go true e =
@@ -88,76 +89,81 @@ taken-count c ps k = go (ltb 768 (length ps)) refl
 
 -- ---- the end of the text
 
-module _ (xs ys times : List Float) (marks lens t : List ℕ) where
-  begin : Machine
-  begin = holding startReader xs ys times marks lens
+same-columns : (c d : Columns) → c .xs ≡ d .xs → c .ys ≡ d .ys → c .times ≡ d .times → c .marks ≡ d .marks → c .lens ≡ d .lens → c ≡ d
+same-columns c d x y t m l = go x y t m l
+  where
+    go : {xs ys times xs₁ ys₁ times₁ : List Float} {marks lens marks₁ lens₁ : List ℕ} → xs ≡ xs₁ → ys ≡ ys₁ → times ≡ times₁ → marks ≡ marks₁ → lens ≡ lens₁
+        → columns xs ys times marks lens ≡ columns xs₁ ys₁ times₁ marks₁ lens₁
+    go x y t m l = rw (x, y, t, m, l)
 
-  pub fed-ended : (r : Reader) (xs' ys' times' : List Float) (marks' lens' : List ℕ) → Fed xs ys times marks lens t r xs' ys' times' marks' lens' → ended (r .state) ≡ inForm t
+module _ (c : Columns) (t : List ℕ) (r : Reader) (c' : Columns) where
+  -- The lines of a text, as the machine holds them that began with the slices c.
+  abbrev HoldsLines : Lines → Machine → Type 0
+  HoldsLines l = Contents (holding startReader c) initial (l .settings) (map fixOf (l .fixes))
+
+  fed-says : Fed c t r c' → Says HoldsLines (linesOf t) (holding r c')
   unfolding startReader
-  fed-ended r xs' ys' times' marks' lens' f = ap (λ (m : Machine). ended (m .at)) (f .fed) ∙ form-theorem t _ _ xs ys times marks lens refl refl
+  fed-says f = subst (Says HoldsLines (linesOf t)) (sym (f .fed)) (text-read t _ _ _ _ _ _ _ refl refl)
 
   -- A text in the form.
-  in-lines : (f : List Field) (l : List (List Field)) → linesOf t ≡ lines f l → (r : Reader) (xs' ys' times' : List Float) (marks' lens' : List ℕ) → Fed xs ys times marks lens t r xs' ys' times' marks' lens' →
-      (taken (configIn (r .sizes) (r .signs)) (r .state .fixes) (r .state .traces) ≡ parsed (inside (configOf f) (map fixOf l)))
-      × (xs' ≡ into xs (xsOf (firstFixes (map fixOf l)))) × (ys' ≡ into ys (ysOf (firstFixes (map fixOf l)))) × (times' ≡ into times (timesOf (firstFixes (map fixOf l))))
-      × (marks' ≡ into marks (marksOf (firstFixes (map fixOf l)))) × (lens' ≡ into lens (lengthsOf (firstFixes (map fixOf l))))
-  unfolding startReader initial parsed lengthsOf begin
-  in-lines f l e r xs' ys' times' marks' lens' d =
-      let ps = map fixOf l in
-      let h : Contents begin initial f ps (run begin t) = contents-theorem t _ _ xs ys times marks lens refl refl f l e in
-      let k : Contents begin initial f ps (holding r xs' ys' times' marks' lens') = subst (λ (m : Machine). Contents begin initial f ps m) (sym (d .fed)) h in (
-        ap (λ (c : Config). taken c (r .state .fixes) (r .state .traces)) (config-read f (r .sizes) (r .signs) (k .sizes) (k .signs))
-            ∙ ap (λ (n : ℕ). taken (configOf f) n (r .state .traces)) (k .fixes)
-            ∙ taken-count (configOf f) ps (r .state .traces)
-            ∙ ap (taken (configOf f) (length ps)) (k .traces ∙ traces-counted ps [] 0 refl (k .rising)),
-        k .xs ∙ noted-into (λ p. p .x) xs ps,
-        k .ys ∙ noted-into (λ p. p .y) ys ps,
-        k .times ∙ noted-into _ times ps,
-        k .marks ∙ noted-into _ marks ps,
-        k .lens ∙ lens-noted lens ps (k .rising),
-      )
+  in-lines : (f : List Field) (ps : List FixLine) → Contents (holding startReader c) initial f ps (holding r c')
+      → (atMost768 (configIn (r .sizes) (r .signs)) (r .state .fixes) (r .state .traces) ≡ parsed (inside (configOf f) ps)) × (c' ≡ withColumns c (firstFixes ps))
+  unfolding startReader initial parsed lengthsOf withColumns
+  in-lines f ps k = (
+    ap (λ (s : Config). atMost768 s (r .state .fixes) (r .state .traces)) (config-read f (r .sizes) (r .signs) (k .sizes) (k .signs))
+        ∙ ap (λ (n : ℕ). atMost768 (configOf f) n (r .state .traces)) (k .fixes)
+        ∙ many-counted (configOf f) ps (r .state .traces)
+        ∙ ap (atMost768 (configOf f) (length ps)) (k .traces ∙ traces-counted ps [] 0 refl (k .rising)),
+    same-columns c' _
+        (k .xs ∙ noted-into (λ p. p .x) (c .xs) ps)
+        (k .ys ∙ noted-into (λ p. p .y) (c .ys) ps)
+        (k .times ∙ noted-into _ (c .times) ps)
+        (k .marks ∙ noted-into _ (c .marks) ps)
+        (k .lens ∙ lens-noted (c .lens) ps (k .rising)),
+  )
 
   -- What was read, whatever its pieces were.
-  pub fed-read : (r : Reader) (xs' ys' times' : List Float) (marks' lens' : List ℕ) → Fed xs ys times marks lens t r xs' ys' times' marks' lens' → ReadAs xs ys times marks lens t (finished r) xs' ys' times' marks' lens'
-  unfolding finished inForm areLines read valuesOf finishedIf parsed
-  fed-read r xs' ys' times' marks' lens' f = go (linesOf t) refl
+  fed-read : Fed c t r c' → ReadAs c t (finished r) c'
+  unfolding finished read valuesOf finishedIf parsed Says
+  fed-read f = go (linesOf t) refl (fed-says f)
     where
-      go : (L : Lines) → linesOf t ≡ L → ReadAs xs ys times marks lens t (finishedIf (ended (r .state)) r) xs' ys' times' marks' lens'
-      go noLines e =
-          let n : ended (r .state) ≡ false = fed-ended r xs' ys' times' marks' lens' f ∙ ap areLines e in
+      go : (L : Option Lines) → linesOf t ≡ L → Says HoldsLines L (holding r c') → ReadAs c t (finishedIf (ended (r .state)) r) c'
+      go none e n = record { answer = rw (n, e); slices = λ s. λ ls. λ q. not-inside s ls (rw e at q) }
+      go (some l) e n =
+          let w = in-lines (l .settings) (map fixOf (l .fixes)) (n .1) in
           record {
-            answer = rw (n, e);
-            columns = λ c. λ ls. λ q. let z : _≡_ {A = Read} outside (inside c ls) = rw e at q in let w : _≡_ {A = ℕ} 0 1 = cc in absurd (omega arith);
-          }
-      go (lines s l) e =
-          let n : ended (r .state) ≡ true = fed-ended r xs' ys' times' marks' lens' f ∙ ap areLines e in
-          let w = in-lines s l e r xs' ys' times' marks' lens' f in
-          record {
-            answer = rw (n, e) (w .0);
-            columns = λ c. λ ls. λ q. let z : inside (configOf s) (map fixOf l) ≡ inside c ls = rw e at q in let v : map fixOf l ≡ ls = cc in rw (← v) (w .1, w .2, w .3, w .4, w .5);
+            answer = rw (n .0, e) (w .0);
+            slices = λ s. λ ls. λ q.
+                let z : inside (configOf (l .settings)) (map fixOf (l .fixes)) ≡ inside s ls = rw e at q in
+                let v : map fixOf (l .fixes) ≡ ls = cc in
+                rw (← v) (w .1);
           }
 
 -- `finish`: the text was read.
-pub fed-end : {xs ys times : List Float} {marks lens t : List ℕ} {r : Reader} {p : Parsed} {xs' ys' times' : List Float} {marks' lens' : List ℕ} → Fed xs ys times marks lens t r xs' ys' times' marks' lens' → p ≡ finished r → ReadAs xs ys times marks lens t p xs' ys' times' marks' lens'
-fed-end {xs} {ys} {times} {marks} {lens} {t} {r} {p} {xs'} {ys'} {times'} {marks'} {lens'} f e = rw e (fed-read xs ys times marks lens t r xs' ys' times' marks' lens' f)
+pub fed-end : {r : Reader} {p : Parsed} → p ≡ finished r → Finishes r p
+fed-end {r} {p} e = record { equation = e; end = λ {c} {c'} {t} f. rw e (fed-read c t r c' f) }
+
+-- The machine before the first byte, without slices.
+abbrev empty : Machine
+empty = machine initial (replicate 11 0) (replicate 11 0) [] [] [] [] []
 
 -- The traces of a text rise from 0 without gaps.
-pub rises : (t : List ℕ) (c : Config) (ps : List FixLine) → read t ≡ inside c ps → Rising 0 ps
-unfolding read valuesOf initial
-rises t c ps q = go (linesOf t) refl
+pub rises : (t : List ℕ) (c : Config) (ps : List FixLine) → read t ≡ inside c ps → TracesRise 0 ps
+unfolding read valuesOf initial Says
+rises t c ps q = go (linesOf t) refl (text-read t (replicate 11 0) (replicate 11 0) [] [] [] [] [] refl refl)
   where
-    go : (L : Lines) → linesOf t ≡ L → Rising 0 ps
-    go noLines e = let z : _≡_ {A = Read} outside (inside c ps) = rw e at q in let w : _≡_ {A = ℕ} 0 1 = cc in absurd (omega arith)
-    go (lines f l) e =
-        let z : inside (configOf f) (map fixOf l) ≡ inside c ps = rw e at q in
-        let v : map fixOf l ≡ ps = cc in
-        subst (Rising 0) v (contents-theorem t (replicate 11 0) (replicate 11 0) [] [] [] [] [] refl refl f l e .rising)
+    go : (L : Option Lines) → linesOf t ≡ L → Says (λ (l : Lines). Contents empty initial (l .settings) (map fixOf (l .fixes))) L (run empty t) → TracesRise 0 ps
+    go none e n = not-inside c ps (rw e at q)
+    go (some l) e n =
+        let z : inside (configOf (l .settings)) (map fixOf (l .fixes)) ≡ inside c ps = rw e at q in
+        let v : map fixOf (l .fixes) ≡ ps = cc in
+        subst (TracesRise 0) v (n .1 .rising)
 
 -- ---- a text in one piece
 
 -- A text that is taken has at most 768 fixes.
 few : (c : Config) (ls : List FixLine) → isTaken (parsed (inside c ls)) ≡ true → firstFixes ls ≡ ls
-unfolding parsed taken unlessMany firstFixes tooMany
+unfolding parsed atMost768 unlessMany firstFixes tooMany
 few c ls h = go (ltb 768 (length ls)) refl
   where
     never : (v : Checked) → isTaken (tooMany v) ≡ false
@@ -168,22 +174,21 @@ few c ls h = go (ltb 768 (length ls)) refl
     go true e = clash (isTaken (tooMany (checkConfig c))) (rw e at h) (never (checkConfig c))
     go false e = take-all 768 ls (ltb-false 768 (length ls) e)
 
-module _ (t : List ℕ) (xs ys times : List Float) (marks lens : List ℕ) where
-  pub parses-refused : (r : Parsed) → r ≡ parsed (read t) → isTaken r ≡ false → Parses t xs ys times marks lens r xs ys times marks lens
-  unfolding filled
-  parses-refused (Refused e) a h = record { answer = a; xs-end = refl; ys-end = refl; times-end = refl; marks-end = refl; lens-end = refl }
-  parses-refused (Tracks i) a h = absurd (let z : _≡_ {A = Bool} true false = h in let w : _≡_ {A = ℕ} 0 1 = cc in omega arith)
+pub parses-refused : {t : List ℕ} {c : Columns} (r : Parsed) → r ≡ parsed (read t) → isTaken r ≡ false → Parses t c r c
+unfolding filled
+parses-refused (Refused e) a h = record { answer = a; slices = refl }
+parses-refused (Tracks i) a h = absurd (false≢true (sym h))
 
-  parses-inside : (r q : Parsed) (w : Read) (xs' ys' times' : List Float) (marks' lens' : List ℕ) → r ≡ parsed (read t) → isTaken r ≡ true → read t ≡ w → ReadAs xs ys times marks lens t q xs' ys' times' marks' lens' → Parses t xs ys times marks lens r xs' ys' times' marks' lens'
-  unfolding filled
-  parses-inside (Refused e) q w xs' ys' times' marks' lens' a h p k = absurd (let z : _≡_ {A = Bool} false true = h in let w : _≡_ {A = ℕ} 0 1 = cc in omega arith)
-  parses-inside (Tracks i) q outside xs' ys' times' marks' lens' a h p k = absurd (let z : isTaken (Tracks i) ≡ isTaken (parsed outside) = ap isTaken (a ∙ ap parsed p) in unfold parsed in let w : _≡_ {A = ℕ} 0 1 = cc in omega arith)
-  parses-inside (Tracks i) q (inside c ls) xs' ys' times' marks' lens' a h p k =
-      let e = few c ls (ap isTaken (sym (a ∙ ap parsed p))) in
-      let z = rw e at (k .columns c ls p) in
-      record { answer = a; xs-end = rw p (z .0); ys-end = rw p (z .1); times-end = rw p (z .2); marks-end = rw p (z .3); lens-end = rw p (z .4) }
+outside-refused : isTaken (parsed outside) ≡ false
+unfolding parsed
+outside-refused = refl
 
-  -- What `parse` does with a text that is taken.
-  pub parses-whole : (s q : Reader) (r : Parsed) (xs' ys' times' : List Float) (marks' lens' : List ℕ)
-      → s ≡ startReader → holding q xs' ys' times' marks' lens' ≡ run (holding s xs ys times marks lens) t → r ≡ parsed (read t) → isTaken r ≡ true → Parses t xs ys times marks lens r xs' ys' times' marks' lens'
-  parses-whole s q r xs' ys' times' marks' lens' p e a h = parses-inside r (finished q) (read t) xs' ys' times' marks' lens' a h refl (fed-read xs ys times marks lens t q xs' ys' times' marks' lens' (fed-whole p e))
+-- What `parse` does with a text that is taken.
+pub parses-whole : {t : List ℕ} {c c' : Columns} {r : Parsed} {q : Reader} → Fed c t q c' → r ≡ parsed (read t) → isTaken r ≡ true → Parses t c r c'
+unfolding filled
+parses-whole {t} {c} {c'} {r} {q} f a h = record { answer = a; slices = go r (read t) refl a h }
+  where
+    go : (r : Parsed) (w : Read) → read t ≡ w → r ≡ parsed (read t) → isTaken r ≡ true → c' ≡ filled r w c
+    go (Refused e) w p a h = absurd (false≢true h)
+    go (Tracks i) outside p a h = absurd (false≢true (sym (ap isTaken (a ∙ ap parsed p) ∙ outside-refused)))
+    go (Tracks i) (inside s ls) p a h = fed-read c t q c' f .slices s ls p ∙ ap (withColumns c) (few s ls (ap isTaken (sym (a ∙ ap parsed p))))

@@ -11,7 +11,7 @@ use native.Mathlib.Numerals.{add-one}
 use lib.Ieee.{Float}
 use lib.Dec.{leb}
 use Rattle.text.specs.declared.state.State.{State}
-use Rattle.text.specs.Steps.{fixOk, Machine, step, run, machine, lexed, lexedSizes, lexedSigns, judged, stored, kept, timed, signedWhole}
+use Rattle.text.specs.Machine.{fixOk, Machine, step, run, machine, lexed, lexedSizes, lexedSigns, judged, stored, setIf, signMark, signedWhole}
 
 pub fix-size : (sizes signs : List ℕ) (s : State) → fixOk sizes signs s ≡ true → getD sizes 7 0 ≤ 1000000000
 unfolding fixOk
@@ -21,7 +21,8 @@ fix-size sizes signs s e = go (leb (getD sizes 7 0) 1000000000) refl where
   go false h = let f : false ≡ true = simp h at e in omega (arith, ap {B = ℕ} (λ (b : Bool). cond b 1 0) f)
 
 -- A loop over the bytes.
-pub run-on : (m m₁ : Machine) (text : List ℕ) (i : ℕ) {v : Machine} → i < length text → m₁ ≡ step m (getD text i 0) → run m (drop i text) ≡ v → run m₁ (drop (i + 1) text) ≡ v
+pub run-on : (m m₁ : Machine) (text : List ℕ) (i : ℕ) {v : Machine} → i < length text → m₁ ≡ step m (getD text i 0) → run m (drop i text) ≡ v
+    → run m₁ (drop (i + 1) text) ≡ v
 unfolding run
 run-on m m₁ text i h e p = ap (λ (n : Machine). run n (drop (i + 1) text)) e ∙ (rw (drop-cons text i 0 h, ← add-one i) at p)
 
@@ -38,11 +39,11 @@ run-parts m (x ∷ a) b = run-parts (step m x) a b
 -- A byte's parts make its step.
 pub step-made : (s t r : State) (b : ℕ) (go : Bool) (sizes signs z g : List ℕ) (xs ys ts xs₁ ys₁ ts₁ : List Float) (ms ls ms₁ ls₁ : List ℕ) (x y w : Float) (d h n : ℕ)
     → t ≡ lexed s b → z ≡ lexedSizes s b sizes → g ≡ lexedSigns s b signs → r ≡ judged z g t → go ≡ stored t r
-    → x ≡ signedWhole (getD g 8 0) (getD z 8 0) → xs₁ ≡ kept go xs (t .fixes) x
-    → y ≡ signedWhole (getD g 9 0) (getD z 9 0) → ys₁ ≡ kept go ys (t .fixes) y
-    → w ≡ signedWhole (getD g 10 0) (getD z 10 0) → ts₁ ≡ kept go ts (t .fixes) w
-    → d ≡ getD g 10 0 → h ≡ timed d → ms₁ ≡ kept go ms (t .fixes) h
-    → n ≡ getD z 7 0 → ls₁ ≡ kept go ls n (r .len)
+    → x ≡ signedWhole (getD g 8 0) (getD z 8 0) → xs₁ ≡ setIf go xs (t .fixes) x
+    → y ≡ signedWhole (getD g 9 0) (getD z 9 0) → ys₁ ≡ setIf go ys (t .fixes) y
+    → w ≡ signedWhole (getD g 10 0) (getD z 10 0) → ts₁ ≡ setIf go ts (t .fixes) w
+    → d ≡ getD g 10 0 → h ≡ signMark d → ms₁ ≡ setIf go ms (t .fixes) h
+    → n ≡ getD z 7 0 → ls₁ ≡ setIf go ls n (r .len)
     → machine r z g xs₁ ys₁ ts₁ ms₁ ls₁ ≡ step (machine s sizes signs xs ys ts ms ls) b
 unfolding step
 step-made s t r b go sizes signs z g xs ys ts xs₁ ys₁ ts₁ ms ls ms₁ ls₁ x y w d h n et ez eg er ego ex exs ey eys ew ets ed eh ems en els =

@@ -6,7 +6,7 @@ use native.Mathlib.Omega.{arith}
 use borrow.Author.Tests.{eq-eqb, ne-eqb}
 use Rattle.text.specs.declared.state.State.{State}
 use Rattle.text.specs.Form.{settingNames, fixNames}
-use Rattle.text.specs.Steps.{nameByte, rowByte, rowSizes, rowSigns, lexed, lexedSizes, lexedSigns}
+use Rattle.text.specs.Machine.{nameByte, rowByte, rowSizes, rowSigns, lexed, lexedSizes, lexedSigns}
 
 module _ (s : State) (b : ℕ) where
   pub lexed-0 : s .stage ≡ 0 → lexed s b ≡ nameByte settingNames 1 0 s b

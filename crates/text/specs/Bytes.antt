@@ -1,4 +1,4 @@
--- Texts as lists of bytes. Definitions only.
+-- Texts as lists of bytes.
 use Prim.Native.Nat.{ℕ}
 use Prim.Native.Char.{code}
 use Prim.Native.String.{String, [] as empty, _∷_ as _then_}

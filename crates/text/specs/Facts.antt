@@ -1,40 +1,34 @@
 -- Texts that the definitions are tried on: the rules' example, and the edges of the form. Proved by computing.
 use mathlib.Core.Path.{_≡_, refl}
-use mathlib.Core.Bool.{Bool, true, false}
+use mathlib.Core.Bool.{true, false}
 use mathlib.Core.List.{List, [], _∷_, _++_}
-use mathlib.Core.Option.{none, some}
+use mathlib.Core.Option.{none, some, bind}
 use Prim.Native.Nat.{ℕ}
 use Prim.Native.String.{String}
 use lib.Ieee.{Float, neg, le, ofInt, ofBits}
 use Rattle.float.specs.Binary64.{whole64, zero64, finite}
 use Rattle.lists.specs.Lists.{overlay}
-use Rattle.tracks.specs.declared.config.Config.{Config}
-use Rattle.tracks.specs.declared.refusal.Refusal.the-variants.{R1, Counts, Text}
-use Rattle.tracks.specs.Checks.{refuseIf, firstOf, inTurn}
-use Rattle.tracks.specs.Settings.{unusable, checkTimeBounds, checkConfig}
+use Rattle.settings.specs.declared.config.Config.{Config}
+use Rattle.settings.specs.declared.refusal.Refusal.the-variants.{R1, Counts, Text}
+use Rattle.settings.specs.Checks.{refuseIf, firstOf, inTurn}
+use Rattle.settings.specs.Settings.{unusable, checkTimeBounds, checkConfig}
 use Rattle.text.specs.declared.Parsed.{Parsed}
 use Rattle.text.specs.declared.Parsed.the-variants.{Tracks, Refused}
 use Rattle.text.specs.Bytes.{bytes, isDigit}
-use Rattle.text.specs.Fields.{allDigits, sizeFrom, digitsOf, afterMinus, fieldOf, isWhole, isNatural, isField, sizeOf, floatOf, timeOf}
-use Rattle.text.specs.Form.{settingNames, fixNames, restIf, past, cons, cut, add, rowIf, put, rowAfter, rowOf, settingEnds, fixEnds, settingsIn, fixIn, also, fixAfter, atEnd, fixLines, withFixes, afterFixNames, linesIf, afterSettings, afterSettingNames, linesOf}
-use Rattle.text.specs.Values.{configOf, fixOf, Read, outside, inside, valuesOf, read, timeMark, xsOf, marksOf, withFix, lengthsFrom, lengthsOf}
-use Rattle.text.specs.Parsed.{tooMany, unlessMany, taken, parsed, into, filled}
-use Rattle.text.specs.Steps.{initial, refused, begun, signed, grown, ended, nameByte, fieldByte, fieldSign, endOf, after, ends, rowByte, rowSizes, rowSigns, lexed, lexedSizes, lexedSigns, setLine, fixLine, settingsOk, settled, fixOk, more, counted, noted, judged, stored, signedWhole, timed, kept, step, run}
-use Rattle.text.specs.Pieces.{startReader, holding}
+use Rattle.text.specs.Fields.{allDigits, sizeFrom, digitsOf, afterMinus, fieldOf, isWhole, isNatural, isField, sizeOf, floatOf, fieldTime}
+use Rattle.text.specs.Form.{onlyIf, settingNames, fixNames, past, cut, rowOf, settingEnds, fixEnds, settingsIn, fixIn, unlessEnded, fixLines, linesOf}
+use Rattle.text.specs.Values.{configOf, fixOf, Read, outside, inside, valuesOf, read, timeValue, timeMark, withFix, lengthsFrom, lengthsOf, columns}
+use Rattle.text.specs.Parsed.{tooMany, unlessMany, atMost768, parsed, into, withColumns, filled}
 
 -- What a text says, and what parsing hands back.
 reads : List ℕ → Read
-unfolding read valuesOf configOf fixOf linesOf afterSettingNames afterSettings linesIf afterFixNames withFixes fixLines atEnd fixAfter also fixIn settingsIn fixEnds settingEnds rowOf rowAfter put rowIf add cut cons past restIf fixNames settingNames timeOf floatOf sizeOf isField isNatural isWhole fieldOf afterMinus digitsOf sizeFrom allDigits isDigit bytes neg ofInt ofBits
+unfolding read valuesOf configOf fixOf linesOf fixLines unlessEnded fixIn settingsIn fixEnds settingEnds rowOf cut past onlyIf bind fixNames settingNames
+    fieldTime floatOf sizeOf isField isNatural isWhole fieldOf afterMinus digitsOf sizeFrom allDigits isDigit bytes neg ofInt ofBits
 reads t = read t
 
 parses : List ℕ → Parsed
-unfolding reads parsed taken unlessMany tooMany lengthsOf lengthsFrom withFix checkConfig checkTimeBounds unusable inTurn firstOf refuseIf finite le
+unfolding reads parsed atMost768 unlessMany tooMany lengthsOf lengthsFrom withFix checkConfig checkTimeBounds unusable inTurn firstOf refuseIf finite le
 parses t = parsed (reads t)
-
--- Whether the machine takes a text, byte by byte.
-takes : List ℕ → Bool
-unfolding bytes initial refused begun signed grown ended nameByte fieldByte isDigit fieldSign endOf after ends rowByte rowSizes rowSigns settingNames fixNames lexed lexedSizes lexedSigns setLine fixLine settingsOk settled fixOk more counted noted judged stored signedWhole timed kept step run startReader
-takes t = ended (run (holding startReader [] [] [] [] []) t .at)
 
 -- Names and settings as in docs/RULES.md, and these lines of fixes.
 fixesOf : String → List ℕ
@@ -66,112 +60,98 @@ example-parses : parses example ≡ Tracks (record { config = usual; fixes = 2; 
 unfolding parses example usual
 example-parses = refl
 
-example-taken : takes example ≡ true
-unfolding takes example
-example-taken = refl
-
 -- The slices: two fixes of one trace, without times; behind them stays what was there.
-example-xs : filled xsOf (parses example) (reads example) (w 7 ∷ w 7 ∷ w 7 ∷ []) ≡ w 0 ∷ w 3 ∷ w 7 ∷ []
-unfolding parses reads example filled into overlay
-example-xs = refl
-
-example-marks : filled marksOf (parses example) (reads example) (7 ∷ 7 ∷ 7 ∷ []) ≡ 0 ∷ 0 ∷ 7 ∷ []
-unfolding parses reads example filled into overlay timeMark
-example-marks = refl
-
-example-lens : filled lengthsOf (parses example) (reads example) (7 ∷ 7 ∷ 7 ∷ []) ≡ 2 ∷ 7 ∷ 7 ∷ []
-unfolding parses reads example filled into overlay lengthsOf lengthsFrom withFix
-example-lens = refl
+example-slices : filled (parses example) (reads example) (columns (w 7 ∷ w 7 ∷ w 7 ∷ []) (w 8 ∷ w 8 ∷ []) (w 9 ∷ w 9 ∷ w 9 ∷ []) (7 ∷ 7 ∷ 7 ∷ []) (5 ∷ 5 ∷ []))
+    ≡ columns (w 0 ∷ w 3 ∷ w 7 ∷ []) (w 0 ∷ w 4 ∷ []) (w 0 ∷ w 0 ∷ w 9 ∷ []) (0 ∷ 0 ∷ 7 ∷ []) (2 ∷ 5 ∷ [])
+unfolding parses reads example filled withColumns into overlay timeValue timeMark lengthsOf lengthsFrom withFix
+example-slices = refl
 
 -- ---- numbers
 
 -- -0 is 0.0; zeros in front are digits; a time may be negative. Two traces.
-minus-zero : reads (fixesOf "0 -0 007 -12\n1 1 1 5\n") ≡ inside usual (record { trace = 0; x = zero64; y = w 7; time = some (neg (w 12)) } ∷ record { trace = 1; x = w 1; y = w 1; time = some (w 5) } ∷ [])
+minus-zero : reads (fixesOf "0 -0 007 -12\n1 1 1 5\n")
+    ≡ inside usual (record { trace = 0; x = zero64; y = w 7; time = some (neg (w 12)) } ∷ record { trace = 1; x = w 1; y = w 1; time = some (w 5) } ∷ [])
 unfolding reads fixesOf usual
 minus-zero = refl
-
-minus-zero-taken : takes (fixesOf "0 -0 007 -12\n1 1 1 5\n") ≡ true
-unfolding takes fixesOf
-minus-zero-taken = refl
 
 largest : reads (fixesOf "0 1000000000 -1000000000 -\n") ≡ inside usual (record { trace = 0; x = w 1000000000; y = neg (w 1000000000); time = none } ∷ [])
 unfolding reads fixesOf usual
 largest = refl
 
--- ---- not in the form, by the grammar and by the machine
+-- ---- not in the form
 
 abbrev Outside : List ℕ → Type 0
-Outside t = (reads t ≡ outside) × (takes t ≡ false)
+Outside t = reads t ≡ outside
 
 empty : Outside []
-unfolding reads takes
-empty = (refl, refl)
+unfolding reads
+empty = refl
 
 too-large : Outside (fixesOf "0 1000000001 0 -\n")
-unfolding reads takes fixesOf
-too-large = (refl, refl)
+unfolding reads fixesOf
+too-large = refl
 
 no-last-feed : Outside (fixesOf "0 0 0 -")
-unfolding reads takes fixesOf
-no-last-feed = (refl, refl)
+unfolding reads fixesOf
+no-last-feed = refl
 
 two-spaces : Outside (fixesOf "0  0 0 -\n")
-unfolding reads takes fixesOf
-two-spaces = (refl, refl)
+unfolding reads fixesOf
+two-spaces = refl
 
 empty-field : Outside (fixesOf "0 0  -\n")
-unfolding reads takes fixesOf
-empty-field = (refl, refl)
+unfolding reads fixesOf
+empty-field = refl
 
 space-at-end : Outside (fixesOf "0 0 0 - \n")
-unfolding reads takes fixesOf
-space-at-end = (refl, refl)
+unfolding reads fixesOf
+space-at-end = refl
 
 empty-line : Outside (fixesOf "\n")
-unfolding reads takes fixesOf
-empty-line = (refl, refl)
+unfolding reads fixesOf
+empty-line = refl
 
 three-fields : Outside (fixesOf "0 0 0\n0 -\n")
-unfolding reads takes fixesOf
-three-fields = (refl, refl)
+unfolding reads fixesOf
+three-fields = refl
 
 plus-sign : Outside (fixesOf "0 +1 0 -\n")
-unfolding reads takes fixesOf
-plus-sign = (refl, refl)
+unfolding reads fixesOf
+plus-sign = refl
 
 -- Only a time may be a minus alone.
 no-x : Outside (fixesOf "0 - 0 -\n")
-unfolding reads takes fixesOf
-no-x = (refl, refl)
+unfolding reads fixesOf
+no-x = refl
 
 -- Traces rise from 0 without gaps.
 trace-gap : Outside (fixesOf "0 0 0 -\n2 3 4 -\n")
-unfolding reads takes fixesOf
-trace-gap = (refl, refl)
+unfolding reads fixesOf
+trace-gap = refl
 
 first-trace-1 : Outside (fixesOf "1 0 0 -\n")
-unfolding reads takes fixesOf
-first-trace-1 = (refl, refl)
+unfolding reads fixesOf
+first-trace-1 = refl
 
 trace-back : Outside (fixesOf "0 0 0 -\n1 0 0 -\n0 0 0 -\n")
-unfolding reads takes fixesOf
-trace-back = (refl, refl)
+unfolding reads fixesOf
+trace-back = refl
 
 single-2 : Outside (settingsOf "10 10 2 300 86400 2 42\n")
-unfolding reads takes settingsOf
-single-2 = (refl, refl)
+unfolding reads settingsOf
+single-2 = refl
 
 negative-size : Outside (settingsOf "10 10 1 300 86400 -2 42\n")
-unfolding reads takes settingsOf
-negative-size = (refl, refl)
+unfolding reads settingsOf
+negative-size = refl
 
 negative-seed : Outside (settingsOf "10 10 1 300 86400 2 -42\n")
-unfolding reads takes settingsOf
-negative-seed = (refl, refl)
+unfolding reads settingsOf
+negative-seed = refl
 
 names-swapped : Outside (bytes "r1 r2 single stay gap seed size\n10 10 1 300 86400 2 42\ntrace x y time\n")
-unfolding reads takes bytes
-names-swapped = (refl, refl)
+unfolding reads bytes
+names-swapped = refl
 
 outside-parses : parses (fixesOf "0 0 0 -") ≡ Refused Text
 unfolding parses fixesOf
@@ -185,14 +165,15 @@ unfolding parses settingsOf usual
 no-fix = refl
 
 -- Settings that the check refuses are in the form: -1, 0 and size 0.
-negative-r1 : reads (settingsOf "-1 0 0 300 86400 0 0\n") ≡ inside (record { r1 = neg (w 1); r2 = w 0; «label_singleton» = false; «min_staying_time» = w 300; «max_time_between» = w 86400; «min_size» = 0; seed = 0 }) []
+negative-r1 : reads (settingsOf "-1 0 0 300 86400 0 0\n")
+    ≡ inside (record { r1 = neg (w 1); r2 = w 0; «label_singleton» = false; «min_staying_time» = w 300; «max_time_between» = w 86400; «min_size» = 0; seed = 0 }) []
 unfolding reads settingsOf
 negative-r1 = refl
 
 -- 769 fixes are 9, unless the settings are refused.
 many : Config → Parsed
-unfolding taken unlessMany tooMany checkConfig checkTimeBounds unusable inTurn firstOf refuseIf finite le ofInt ofBits
-many c = taken c 769 1
+unfolding atMost768 unlessMany tooMany checkConfig checkTimeBounds unusable inTurn firstOf refuseIf finite le ofInt ofBits
+many c = atMost768 c 769 1
 
 one-too-many : many usual ≡ Refused Counts
 unfolding many usual

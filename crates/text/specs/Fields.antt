@@ -1,5 +1,5 @@
 -- A field of the house form (docs/RULES.md, "Program `stops`"): a whole number of size up to 10^9, an optional minus and digits; or a minus alone,
--- which a time may be. Definitions only.
+-- which a time may be.
 use Prim.Native.Nat.{ℕ, _+_, _-_, _*_}
 use mathlib.Core.Bool.{Bool, true, false, cond, _&&_, not}
 use mathlib.Core.List.{List, [], _∷_}
@@ -69,7 +69,7 @@ floatOf dash = whole64 0
 floatOf bad = whole64 0
 
 -- A minus alone for none. No line has a field that is neither.
-unfoldable pub timeOf : Field → Option Float
-timeOf (number n v) = some (floatOf (number n v))
-timeOf dash = none
-timeOf bad = some (floatOf bad)
+unfoldable pub fieldTime : Field → Option Float
+fieldTime (number n v) = some (floatOf (number n v))
+fieldTime dash = none
+fieldTime bad = some (floatOf bad)

@@ -1,12 +1,18 @@
 -- The house form by lines and fields (docs/RULES.md, "Program `stops`"): a line of names, a line of settings, a line of names, a line for each fix.
--- Definitions only.
+-- Each part reads the front of a text and hands on what follows it; `none` where the text is not in the form.
 use Prim.Native.Nat.{ℕ, zero, suc, _+_}
-use mathlib.Core.Bool.{Bool, true, false, _&&_, _||_}
+use mathlib.Core.Bool.{Bool, true, false, cond, _&&_, _||_}
 use mathlib.Core.List.{List, [], _∷_}
+use mathlib.Core.Option.{Option, none, some, bind, Option·map}
 use lib.ListN.{length, getD}
 use lib.Dec.{eqb, leb}
 use Rattle.text.specs.Bytes.{bytes, lineFeed, space}
 use Rattle.text.specs.Fields.{Field, bad, fieldOf, isWhole, isNatural, isField, sizeOf}
+
+-- What was read, where the test holds.
+unfoldable pub onlyIf : {A : Type 0} → Bool → Option A → Option A
+onlyIf true o = o
+onlyIf false o = none
 
 -- ---- a line of names
 
@@ -19,60 +25,23 @@ unfolding bytes
 fixNames = bytes "trace x y time\n"
 
 -- What follows the names, where the text begins with them.
-pub data Rest : Type 0 where
-  gone : Rest
-  rest : List ℕ → Rest
-
-unfoldable pub restIf : Bool → Rest → Rest
-restIf true r = r
-restIf false r = gone
-
-unfoldable pub past : List ℕ → List ℕ → Rest
-past [] t = rest t
-past (c ∷ cs) [] = gone
-past (c ∷ cs) (b ∷ t) = restIf (eqb b c) (past cs t)
+unfoldable pub past : List ℕ → List ℕ → Option (List ℕ)
+past [] t = some t
+past (c ∷ cs) [] = none
+past (c ∷ cs) (b ∷ t) = onlyIf (eqb b c) (past cs t)
 
 -- ---- a line of values
 
 -- A text up to its first byte e, and what follows that byte.
-pub data Cut : Type 0 where
-  uncut : Cut
-  cutAt : List ℕ → List ℕ → Cut
+unfoldable pub cut : ℕ → List ℕ → Option (List ℕ × List ℕ)
+cut e [] = none
+cut e (b ∷ t) = cond (eqb b e) (some ([], t)) (Option·map (λ (c : List ℕ × List ℕ). (b ∷ c .0, c .1)) (cut e t))
 
-unfoldable pub cons : Bool → ℕ → List ℕ → Cut → Cut
-cons true b t c = cutAt [] t
-cons false b t uncut = uncut
-cons false b t (cutAt f r) = cutAt (b ∷ f) r
-
-unfoldable pub cut : ℕ → List ℕ → Cut
-cut e [] = uncut
-cut e (b ∷ t) = cons (eqb b e) b t (cut e t)
-
--- Fields, each ended by its byte, and what follows them.
-pub data Row : Type 0 where
-  noRow : Row
-  row : List Field → List ℕ → Row
-
-unfoldable pub add : Field → Row → Row
-add f noRow = noRow
-add f (row fs r) = row (f ∷ fs) r
-
-unfoldable pub rowIf : Bool → Row → Row
-rowIf true r = r
-rowIf false r = noRow
-
--- A field before others: a number, or a minus alone.
-unfoldable pub put : Field → Row → Row
-put f r = rowIf (isField f) (add f r)
-
-unfoldable pub rowAfter : Cut → (List ℕ → Row) → Row
-rowAfter uncut k = noRow
-rowAfter (cutAt f r) k = put (fieldOf f) (k r)
-
--- The fields that these bytes end.
-unfoldable pub rowOf : List ℕ → List ℕ → Row
-rowOf [] t = row [] t
-rowOf (e ∷ es) t = rowAfter (cut e t) (rowOf es)
+-- The fields that these bytes end, each a number or a minus alone, and what follows them.
+unfoldable pub rowOf : List ℕ → List ℕ → Option (List Field × List ℕ)
+rowOf [] t = some ([], t)
+rowOf (e ∷ es) t =
+    bind (cut e t) (λ c. onlyIf (isField (fieldOf (c .0))) (Option·map (λ (r : List Field × List ℕ). (fieldOf (c .0) ∷ r .0, r .1)) (rowOf es (c .1))))
 
 -- One space between fields, a line feed after the last.
 unfoldable pub settingEnds : List ℕ
@@ -87,72 +56,38 @@ settingsIn fs =
     isWhole (getD fs 0 bad) && isWhole (getD fs 1 bad) && isNatural (getD fs 2 bad) && leb (sizeOf (getD fs 2 bad)) 1
     && isWhole (getD fs 3 bad) && isWhole (getD fs 4 bad) && isNatural (getD fs 5 bad) && isNatural (getD fs 6 bad)
 
-abbrev pub traceOf : List Field → ℕ
-traceOf fs = sizeOf (getD fs 0 bad)
+-- The number of a fix line's trace.
+abbrev pub traceNumber : List Field → ℕ
+traceNumber fs = sizeOf (getD fs 0 bad)
 
 -- trace x y time, after n traces: the trace is the next one, or the last again. A time is a number or a minus alone, as every field is.
 unfoldable pub fixIn : ℕ → List Field → Bool
-fixIn n fs = isNatural (getD fs 0 bad) && isWhole (getD fs 1 bad) && isWhole (getD fs 2 bad) && (eqb (traceOf fs) n || eqb (traceOf fs + 1) n)
+fixIn n fs = isNatural (getD fs 0 bad) && isWhole (getD fs 1 bad) && isWhole (getD fs 2 bad) && (eqb (traceNumber fs) n || eqb (traceNumber fs + 1) n)
 
 -- ---- the text
 
--- Lines of fixes, each as its fields.
-pub data Fixes : Type 0 where
-  noFixes : Fixes
-  fixes : List (List Field) → Fixes
+-- No line where the text has ended, and otherwise those that follow.
+unfoldable pub unlessEnded : List ℕ → Option (List (List Field)) → Option (List (List Field))
+unlessEnded [] o = some []
+unlessEnded (b ∷ t) o = o
 
-unfoldable pub also : Bool → List Field → Fixes → Fixes
-also false fs l = noFixes
-also true fs noFixes = noFixes
-also true fs (fixes l) = fixes (fs ∷ l)
+-- The lines of fixes to the end of the text, each as its fields, after n traces; at most l of them.
+unfoldable pub fixLines : ℕ → ℕ → List ℕ → Option (List (List Field))
+fixLines zero n t = unlessEnded t none
+fixLines (suc l) n t =
+    unlessEnded t
+    (bind (rowOf fixEnds t) (λ r. onlyIf (fixIn n (r .0)) (Option·map (λ (fs : List (List Field)). r .0 ∷ fs) (fixLines l (traceNumber (r .0) + 1) (r .1)))))
 
-unfoldable pub fixAfter : ℕ → Row → (ℕ → List ℕ → Fixes) → Fixes
-fixAfter n noRow k = noFixes
-fixAfter n (row fs r) k = also (fixIn n fs) fs (k (traceOf fs + 1) r)
-
--- Nothing more, or what follows.
-unfoldable pub atEnd : List ℕ → Fixes → Fixes
-atEnd [] f = fixes []
-atEnd (b ∷ t) f = f
-
--- The lines of fixes to the end of the text, after n traces; at most l of them.
-unfoldable pub fixLines : ℕ → ℕ → List ℕ → Fixes
-fixLines zero n t = atEnd t noFixes
-fixLines (suc l) n t = atEnd t (fixAfter n (rowOf fixEnds t) (λ m r. fixLines l m r))
-
--- A text in the form: the fields of its settings, and of each fix.
-pub data Lines : Type 0 where
-  noLines : Lines
-  lines : List Field → List (List Field) → Lines
-
-unfoldable pub withFixes : List Field → Fixes → Lines
-withFixes s noFixes = noLines
-withFixes s (fixes l) = lines s l
-
-unfoldable pub afterFixNames : List Field → Rest → Lines
-afterFixNames s gone = noLines
-afterFixNames s (rest t) = withFixes s (fixLines (length t) 0 t)
-
-unfoldable pub linesIf : Bool → Lines → Lines
-linesIf true r = r
-linesIf false r = noLines
-
-unfoldable pub afterSettings : Row → Lines
-afterSettings noRow = noLines
-afterSettings (row s r) = linesIf (settingsIn s) (afterFixNames s (past fixNames r))
-
-unfoldable pub afterSettingNames : Rest → Lines
-afterSettingNames gone = noLines
-afterSettingNames (rest t) = afterSettings (rowOf settingEnds t)
+-- The fields of a text's settings, and of each of its fixes.
+pub record Lines : Type 0 where
+  pub settings : List Field
+  pub fixes : List (List Field)
 
 -- The lines of a text.
-unfoldable pub linesOf : List ℕ → Lines
-linesOf t = afterSettingNames (past settingNames t)
-
-unfoldable pub areLines : Lines → Bool
-areLines noLines = false
-areLines (lines s l) = true
-
--- Whether a text is in the form.
-unfoldable pub inForm : List ℕ → Bool
-inForm t = areLines (linesOf t)
+unfoldable pub linesOf : List ℕ → Option Lines
+linesOf t =
+    bind (past settingNames t) (λ t₁.
+    bind (rowOf settingEnds t₁) (λ s.
+    onlyIf (settingsIn (s .0)) (
+    bind (past fixNames (s .1)) (λ t₂.
+    Option·map (λ (fs : List (List Field)). record { settings = s .0; fixes = fs }) (fixLines (length t₂) 0 t₂)))))

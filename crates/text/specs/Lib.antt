@@ -3,6 +3,6 @@ pub mod Fields
 pub mod Form
 pub mod Values
 pub mod Parsed
-pub mod Steps
+pub mod Machine
 pub mod Pieces
 pub mod Facts

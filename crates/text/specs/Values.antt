@@ -1,16 +1,14 @@
--- What a text in the house form says: settings, and fixes with their traces; and the columns that a fit is given. Definitions only.
-use mathlib.Core.Logic.{_⊎_}
-use mathlib.Core.Path.{_≡_}
-use Prim.Native.Nat.{ℕ, zero, suc, _+_}
+-- What a text in the house form says: settings, and fixes with their traces; and the columns that a fit is given.
+use Prim.Native.Nat.{ℕ, zero, suc}
 use mathlib.Core.List.{List, [], _∷_, map}
 use mathlib.Core.Option.{Option, none, some}
 use lib.Dec.{eqb}
 use lib.ListN.{getD}
 use lib.Ieee.{Float}
 use Rattle.float.specs.Binary64.{whole64}
-use Rattle.tracks.specs.declared.config.Config.{Config}
-use Rattle.text.specs.Fields.{Field, bad, sizeOf, floatOf, timeOf}
-use Rattle.text.specs.Form.{Lines, noLines, lines, linesOf, traceOf}
+use Rattle.settings.specs.declared.config.Config.{Config}
+use Rattle.text.specs.Fields.{Field, bad, sizeOf, floatOf, fieldTime}
+use Rattle.text.specs.Form.{Lines, linesOf, traceNumber}
 
 -- r1 r2 single stay gap size seed.
 unfoldable pub configOf : List Field → Config
@@ -32,16 +30,16 @@ pub record FixLine : Type 0 where
 
 -- trace x y time.
 unfoldable pub fixOf : List Field → FixLine
-fixOf fs = record { trace = traceOf fs; x = floatOf (getD fs 1 bad); y = floatOf (getD fs 2 bad); time = timeOf (getD fs 3 bad) }
+fixOf fs = record { trace = traceNumber fs; x = floatOf (getD fs 1 bad); y = floatOf (getD fs 2 bad); time = fieldTime (getD fs 3 bad) }
 
 -- A text is outside the form, or it says this.
 pub data Read : Type 0 where
   outside : Read
   inside : Config → List FixLine → Read
 
-unfoldable pub valuesOf : Lines → Read
-valuesOf noLines = outside
-valuesOf (lines s l) = inside (configOf s) (map fixOf l)
+unfoldable pub valuesOf : Option Lines → Read
+valuesOf none = outside
+valuesOf (some l) = inside (configOf (l .settings)) (map fixOf (l .fixes))
 
 unfoldable pub read : List ℕ → Read
 read t = valuesOf (linesOf t)
@@ -82,7 +80,13 @@ lengthsFrom ns (l ∷ ls) = lengthsFrom (withFix ns (l .trace)) ls
 unfoldable pub lengthsOf : List FixLine → List ℕ
 lengthsOf ls = lengthsFrom [] ls
 
--- Traces rise without gaps, after n of them: those of every text do, from 0 (proofs/Pieces.antt, `rises`).
-unfoldable pub Rising : ℕ → List FixLine → Type 0
-Rising n [] = Unit
-Rising n (l ∷ ls) = ((l .trace ≡ n) ⊎ (l .trace + 1 ≡ n)) × Rising (l .trace + 1) ls
+-- The slices that take the columns.
+pub record Columns : Type 0 where
+  pub xs : List Float
+  pub ys : List Float
+  pub times : List Float
+  pub marks : List ℕ
+  pub lens : List ℕ
+
+abbrev pub columns : List Float → List Float → List Float → List ℕ → List ℕ → Columns
+columns xs ys times marks lens = record { xs = xs; ys = ys; times = times; marks = marks; lens = lens }

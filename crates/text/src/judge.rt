@@ -2,7 +2,7 @@
 use crate::state::State;
 ghost use mathlib.Core.Path.{_≡_};
 ghost use Prim.Native.Nat.{_≤_};
-ghost use Rattle.text.specs.Steps.{setLine, fixLine, settingsOk, settled as Steps·settled, fixOk, more as Steps·more, counted as Steps·counted, noted as Steps·noted, judged, stored as Steps·stored};
+ghost use Rattle.text.specs.Machine.{setLine, fixLine, settingsOk, settled as Machine·settled, fixOk, more as Machine·more, counted as Machine·counted, noted as Machine·noted, judged, stored as Machine·stored};
 
 // The line of settings: no field is a minus alone; `single` (2) is 0 or 1, `size` (5) and `seed` (6) are not negative.
 fn settings_ok(sizes: &[u64], signs: &[u8]) -> bool
@@ -33,7 +33,7 @@ fn settings_ok(sizes: &[u64], signs: &[u8]) -> bool
 }
 
 fn settled(sizes: &[u64], signs: &[u8], s: State) -> State
-    ensures { λ r. ⌜ r ≡ Steps·settled (now (sizes .entry)) (now (signs .entry)) s ⌝ }
+    ensures { λ r. ⌜ r ≡ Machine·settled (now (sizes .entry)) (now (signs .entry)) s ⌝ }
 {
     if settings_ok(sizes, signs) {
         return crate::state::begun(s, 2, 0);
@@ -66,7 +66,7 @@ fn fix_ok(sizes: &[u64], signs: &[u8], s: State) -> bool
 
 // One more, up to 769.
 fn more(n: usize) -> usize
-    ensures { λ r. ⌜ r ≡ Steps·more n ⌝ }
+    ensures { λ r. ⌜ r ≡ Machine·more n ⌝ }
 {
     if n < 769 {
         return n + 1;
@@ -75,7 +75,7 @@ fn more(n: usize) -> usize
 }
 
 fn more_u32(n: u32) -> u32
-    ensures { λ r. ⌜ r ≡ Steps·more n ⌝ }
+    ensures { λ r. ⌜ r ≡ Machine·more n ⌝ }
 {
     if n < 769 {
         return n + 1;
@@ -86,7 +86,7 @@ fn more_u32(n: u32) -> u32
 // After a fix of trace t.
 fn counted(t: u64, s: State) -> State
     requires { ⌜ t ≤ 1000000000 ⌝ }
-    ensures { λ r. ⌜ r ≡ Steps·counted t s ⌝ }
+    ensures { λ r. ⌜ r ≡ Machine·counted t s ⌝ }
 {
     let fixes = more(s.fixes);
     if t == s.traces {
@@ -115,7 +115,7 @@ fn counted(t: u64, s: State) -> State
 }
 
 fn noted(sizes: &[u64], signs: &[u8], s: State) -> State
-    ensures { λ r. ⌜ r ≡ Steps·noted (now (sizes .entry)) (now (signs .entry)) s ⌝ }
+    ensures { λ r. ⌜ r ≡ Machine·noted (now (sizes .entry)) (now (signs .entry)) s ⌝ }
 {
     if fix_ok(sizes, signs, s) {
         return counted(crate::slices::at_u64(sizes, 7), s);
@@ -156,7 +156,7 @@ pub fn judge(sizes: &[u64], signs: &[u8], s: State) -> State
 
 // Whether r, the state t judged, has taken a fix that is one of the first 768.
 pub fn stored(t: State, r: State) -> bool
-    ensures { λ g. ⌜ g ≡ Steps·stored t r ⌝ }
+    ensures { λ g. ⌜ g ≡ Machine·stored t r ⌝ }
 {
     if fix_line(t) {
         if r.stage == 3 {

@@ -1,13 +1,13 @@
 // The house form of the program `stops` (docs/RULES.md, "Program `stops`"): a text is parsed into settings and tracks, whole or in pieces.
 use crate::state::State;
-use tracks::config::Config;
-use tracks::refusal::Checked;
-use tracks::refusal::Refusal;
+use settings::config::Config;
+use settings::refusal::Checked;
+use settings::refusal::Refusal;
 ghost use mathlib.Core.Path.{_≡_};
-ghost use Rattle.text.specs.Values.{read};
-ghost use Rattle.text.specs.Parsed.{tooMany, taken as Parsed·taken, parsed, isTaken, Parses};
-ghost use Rattle.text.specs.Steps.{run};
-ghost use Rattle.text.specs.Pieces.{startReader, holding, configIn, finished};
+ghost use Rattle.text.specs.Values.{read, columns};
+ghost use Rattle.text.specs.Parsed.{tooMany, atMost768, parsed, Parses};
+ghost use Rattle.text.specs.Machine.{configIn, isTaken};
+ghost use Rattle.text.specs.Pieces.{Starts, Feeds, Finishes};
 
 mod judge;
 mod machine;
@@ -46,11 +46,11 @@ fn too_many(c: Checked) -> Parsed
 }
 
 // A text in the form with n fixes in k traces.
-fn taken(c: Config, n: usize, k: usize) -> Parsed
-    ensures { λ r. ⌜ r ≡ Parsed·taken c n k ⌝ }
+fn at_most_768(c: Config, n: usize, k: usize) -> Parsed
+    ensures { λ r. ⌜ r ≡ atMost768 c n k ⌝ }
 {
     if 768 < n {
-        return too_many(tracks::config::check_config(c));
+        return too_many(settings::config::check_config(c));
     }
     Parsed::Tracks(Input {
         config: c,
@@ -76,7 +76,7 @@ fn config(sizes: &[u64], signs: &[u8]) -> Config
 
 // Before the first piece.
 pub fn start() -> Reader
-    ensures { λ r. ⌜ r ≡ startReader ⌝ }
+    ensures { λ r. ⌜ Starts r ⌝ }
 {
     Reader {
         state: state::initial(),
@@ -85,8 +85,7 @@ pub fn start() -> Reader
     }
 }
 
-// Takes the next piece of a text. The columns of the first 768 fixes go into the slices, as far as there is room. With `fed-start`, `fed-more` and
-// `fed-end` of proofs/Pieces.antt these contracts say of the text, in however many pieces it came, that it was read as `ReadAs` says.
+// Takes the next piece of a text. The columns of the first 768 fixes go into the slices, as far as there is room.
 pub fn feed(
     r: Reader,
     text: &[u8],
@@ -96,7 +95,9 @@ pub fn feed(
     marks: &mut [u8],
     lens: &mut [u32],
 ) -> Reader
-    ensures { λ q. ⌜ holding q (now (xs .exit)) (now (ys .exit)) (now (times .exit)) (now (marks .exit)) (now (lens .exit)) ≡ run (holding r (now (xs .entry)) (now (ys .entry)) (now (times .entry)) (now (marks .entry)) (now (lens .entry))) (now (text .entry)) ⌝ }
+    ensures { λ q. ⌜
+        Feeds (now (text .entry)) r (columns (now (xs .entry)) (now (ys .entry)) (now (times .entry)) (now (marks .entry)) (now (lens .entry)))
+        q (columns (now (xs .exit)) (now (ys .exit)) (now (times .exit)) (now (marks .exit)) (now (lens .exit))) ⌝ }
 {
     let mut sizes = r.sizes;
     let mut signs = r.signs;
@@ -109,15 +110,15 @@ pub fn feed(
     }
 }
 
-// What has been read, where the text ends here.
+// What was read, where the text ends here: by these contracts `ReadAs` of all pieces joined, however the text was cut.
 pub fn finish(r: Reader) -> Parsed
-    ensures { λ p. ⌜ p ≡ finished r ⌝ }
+    ensures { λ p. ⌜ Finishes r p ⌝ }
 {
     let s = r.state;
     if state::ended(s) {
         let sizes = r.sizes;
         let signs = r.signs;
-        return taken(config(&sizes, &signs), s.fixes, s.traces as usize);
+        return at_most_768(config(&sizes, &signs), s.fixes, s.traces as usize);
     }
     Parsed::Refused(Refusal::Text)
 }
@@ -161,7 +162,9 @@ pub fn parse(
     marks: &mut [u8],
     lens: &mut [u32],
 ) -> Parsed
-    ensures { λ r. ⌜ Parses (now (text .entry)) (now (xs .entry)) (now (ys .entry)) (now (times .entry)) (now (marks .entry)) (now (lens .entry)) r (now (xs .exit)) (now (ys .exit)) (now (times .exit)) (now (marks .exit)) (now (lens .exit)) ⌝ }
+    ensures { λ r. ⌜
+        Parses (now (text .entry)) (columns (now (xs .entry)) (now (ys .entry)) (now (times .entry)) (now (marks .entry)) (now (lens .entry)))
+        r (columns (now (xs .exit)) (now (ys .exit)) (now (times .exit)) (now (marks .exit)) (now (lens .exit))) ⌝ }
 {
     let p = verdict(text);
     if is_taken(p) {

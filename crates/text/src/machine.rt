@@ -2,7 +2,7 @@
 use crate::state::State;
 ghost use mathlib.Core.Path.{_≡_};
 ghost use lib.ListN.{getD};
-ghost use Rattle.text.specs.Steps.{signedWhole, timed as Steps·timed, step, run, machine};
+ghost use Rattle.text.specs.Machine.{signedWhole, signMark, step, run, machine};
 
 // A whole number as a float.
 fn signed_whole(sign: u8, size: u64) -> f64
@@ -26,8 +26,8 @@ pub fn value(sizes: &[u64], signs: &[u8], i: usize) -> f64
 }
 
 // The time mark.
-fn timed(sign: u8) -> u8
-    ensures { λ r. ⌜ r ≡ Steps·timed sign ⌝ }
+fn sign_mark(sign: u8) -> u8
+    ensures { λ r. ⌜ r ≡ signMark sign ⌝ }
 {
     if sign == 2 {
         return 0;
@@ -47,7 +47,10 @@ fn advance(
     marks: &mut [u8],
     lens: &mut [u32],
 ) -> State
-    ensures { λ r. ⌜ machine r (now (sizes .exit)) (now (signs .exit)) (now (xs .exit)) (now (ys .exit)) (now (times .exit)) (now (marks .exit)) (now (lens .exit)) ≡ step (machine s (now (sizes .entry)) (now (signs .entry)) (now (xs .entry)) (now (ys .entry)) (now (times .entry)) (now (marks .entry)) (now (lens .entry))) b ⌝ }
+    ensures { λ r. ⌜
+        machine r (now (sizes .exit)) (now (signs .exit)) (now (xs .exit)) (now (ys .exit)) (now (times .exit)) (now (marks .exit)) (now (lens .exit))
+        ≡ step (machine s (now (sizes .entry)) (now (signs .entry)) (now (xs .entry)) (now (ys .entry)) (now (times .entry)) (now (marks .entry))
+        (now (lens .entry))) b ⌝ }
 {
     let t = crate::scan::lex(s, b, sizes, signs);
     let r = crate::judge::judge(sizes, signs, t);
@@ -56,7 +59,7 @@ fn advance(
     crate::slices::keep_f64(go, xs, n, value(sizes, signs, 8));
     crate::slices::keep_f64(go, ys, n, value(sizes, signs, 9));
     crate::slices::keep_f64(go, times, n, value(sizes, signs, 10));
-    crate::slices::keep_u8(go, marks, n, timed(crate::slices::at_u8(signs, 10)));
+    crate::slices::keep_u8(go, marks, n, sign_mark(crate::slices::at_u8(signs, 10)));
     let tr = crate::slices::at_u64(sizes, 7) as usize;
     let len = r.len;
     crate::slices::keep_u32(go, lens, tr, len);
@@ -75,7 +78,10 @@ pub fn feed_bytes(
     marks: &mut [u8],
     lens: &mut [u32],
 ) -> State
-    ensures { λ r. ⌜ machine r (now (sizes .exit)) (now (signs .exit)) (now (xs .exit)) (now (ys .exit)) (now (times .exit)) (now (marks .exit)) (now (lens .exit)) ≡ run (machine s (now (sizes .entry)) (now (signs .entry)) (now (xs .entry)) (now (ys .entry)) (now (times .entry)) (now (marks .entry)) (now (lens .entry))) (now (text .entry)) ⌝ }
+    ensures { λ r. ⌜
+        machine r (now (sizes .exit)) (now (signs .exit)) (now (xs .exit)) (now (ys .exit)) (now (times .exit)) (now (marks .exit)) (now (lens .exit))
+        ≡ run (machine s (now (sizes .entry)) (now (signs .entry)) (now (xs .entry)) (now (ys .entry)) (now (times .entry)) (now (marks .entry))
+        (now (lens .entry))) (now (text .entry)) ⌝ }
 {
     let mut m = s;
     let mut i = 0;

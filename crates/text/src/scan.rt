@@ -2,7 +2,7 @@
 use crate::state::State;
 ghost use mathlib.Core.Path.{_≡_};
 ghost use Prim.Native.Nat.{_<_};
-ghost use Rattle.text.specs.Steps.{nameByte, fieldByte, fieldSign, ends as Steps·ends, after as Steps·after, rowByte, rowSizes, rowSigns, lexed, lexedSizes, lexedSigns};
+ghost use Rattle.text.specs.Machine.{nameByte, fieldByte, fieldSign, ends as Machine·ends, after as Machine·after, rowByte, rowSizes, rowSigns, lexed, lexedSizes, lexedSigns};
 
 // One byte of a line of names, after which field `at` of `stage` begins.
 fn name_byte(names: &[u8], stage: u32, at: usize, s: State, b: u8) -> State
@@ -73,7 +73,7 @@ fn field_sign(s: State) -> u8
 
 // Whether b ends the field, in a line whose last field is `last`.
 fn ends(last: usize, s: State, b: u8) -> bool
-    ensures { λ r. ⌜ r ≡ Steps·ends last s b ⌝ }
+    ensures { λ r. ⌜ r ≡ Machine·ends last s b ⌝ }
 {
     if s.k < last {
         return b == b' ';
@@ -83,7 +83,7 @@ fn ends(last: usize, s: State, b: u8) -> bool
 
 fn after(last: usize, k: usize) -> usize
     requires { ⌜ last < 11 ⌝ }
-    ensures { λ r. ⌜ r ≡ Steps·after last k ⌝ }
+    ensures { λ r. ⌜ r ≡ Machine·after last k ⌝ }
 {
     if k < last {
         return k + 1;

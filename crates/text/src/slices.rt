@@ -1,7 +1,7 @@
 // Elements of slices, read and set where they are there.
 ghost use mathlib.Core.Path.{_≡_};
 ghost use lib.ListN.{getD, set};
-ghost use Rattle.text.specs.Steps.{kept};
+ghost use Rattle.text.specs.Machine.{setIf};
 
 pub fn put_u64(l: &mut [u64], i: usize, v: u64)
     ensures { λ _. ⌜ now (l .exit) ≡ set (now (l .entry)) i v ⌝ }
@@ -37,7 +37,7 @@ fn put_f64(l: &mut [f64], i: usize, v: f64)
 
 // Set, where `go` says so.
 pub fn keep_f64(go: bool, l: &mut [f64], i: usize, v: f64)
-    ensures { λ _. ⌜ now (l .exit) ≡ kept go (now (l .entry)) i v ⌝ }
+    ensures { λ _. ⌜ now (l .exit) ≡ setIf go (now (l .entry)) i v ⌝ }
 {
     if go {
         put_f64(l, i, v);
@@ -45,7 +45,7 @@ pub fn keep_f64(go: bool, l: &mut [f64], i: usize, v: f64)
 }
 
 pub fn keep_u8(go: bool, l: &mut [u8], i: usize, v: u8)
-    ensures { λ _. ⌜ now (l .exit) ≡ kept go (now (l .entry)) i v ⌝ }
+    ensures { λ _. ⌜ now (l .exit) ≡ setIf go (now (l .entry)) i v ⌝ }
 {
     if go {
         put_u8(l, i, v);
@@ -53,7 +53,7 @@ pub fn keep_u8(go: bool, l: &mut [u8], i: usize, v: u8)
 }
 
 pub fn keep_u32(go: bool, l: &mut [u32], i: usize, v: u32)
-    ensures { λ _. ⌜ now (l .exit) ≡ kept go (now (l .entry)) i v ⌝ }
+    ensures { λ _. ⌜ now (l .exit) ≡ setIf go (now (l .entry)) i v ⌝ }
 {
     if go {
         put_u32(l, i, v);

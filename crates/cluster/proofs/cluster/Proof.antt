@@ -25,7 +25,11 @@ part-groups-end : tie.Need-part-groups-end
 part-groups-end c = search needs
 
 cluster-in-requires : tie.Need-cluster-in-requires
-cluster-in-requires c κs = let p = c .before .before .before .before .before .before .before .before .pre in let e = part-of (replicate {A = ℕ} 512 0) _ (p .0 .square .few) in (p .0, e, e, p .1)
+cluster-in-requires c κs =
+    let at-start = c .before .before .before .before .before .before .before .before in
+    let p = at-start .pre in
+    let e = part-of (replicate {A = ℕ} 512 0) _ (p .0 .square .few) in
+    (p .0, e, e, p .1)
 
 same-length : tie.Need-same-length
 same-length c = search needs

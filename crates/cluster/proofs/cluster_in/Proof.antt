@@ -19,7 +19,17 @@ part-group-and-label-start : tie.Need-part-group-and-label-start
 part-group-and-label-start c = search needs
 
 part-group-and-label-end : tie.Need-part-group-and-label-end
-part-group-and-label-end c = let p = c .before .before .before .before .before .before .before .before .before .before .before .before .before .before .before .before .before .pre in omega (arith, found-few _ _ _ _ (p .0) _ _ _ (c .before .before .before .before .before .before .before .before .before .fill-table .ensures) _ _ _ (c .before .before .before .before .find-nodes .ensures), c .before .before .before .before .find-nodes .kept .1 .1 .0, p .1)
+part-group-and-label-end c =
+    let after-find-nodes = c .before .before .before .before in
+    let after-fill-table = after-find-nodes .before .before .before .before .before in
+    let at-start = after-fill-table .before .before .before .before .before .before .before .before in
+    let p = at-start .pre in
+    omega (
+      arith,
+      found-few _ _ _ _ (p .0) _ _ _ (after-fill-table .fill-table .ensures) _ _ _ (after-find-nodes .find-nodes .ensures),
+      after-find-nodes .find-nodes .kept .1 .1 .0,
+      p .1,
+    )
 
 sub-group-and-label-2 : tie.Need-sub-group-and-label-2
 sub-group-and-label-2 c = search needs
@@ -28,10 +38,27 @@ part-group-and-label-start-2 : tie.Need-part-group-and-label-start-2
 part-group-and-label-start-2 c = search needs
 
 part-group-and-label-end-2 : tie.Need-part-group-and-label-end-2
-part-group-and-label-end-2 c = let p = c .before .before .before .before .before .before .before .before .before .before .before .before .before .before .before .before .before .before .pre in omega (arith, found-few _ _ _ _ (p .0) _ _ _ (c .before .before .before .before .before .before .before .before .before .before .fill-table .ensures) _ _ _ (c .before .before .before .before .before .find-nodes .ensures), p .2)
+part-group-and-label-end-2 c =
+    let after-find-nodes = c .before .before .before .before .before in
+    let after-fill-table = after-find-nodes .before .before .before .before .before in
+    let at-start = after-fill-table .before .before .before .before .before .before .before .before in
+    let p = at-start .pre in
+    omega (arith, found-few _ _ _ _ (p .0) _ _ _ (after-fill-table .fill-table .ensures) _ _ _ (after-find-nodes .find-nodes .ensures), p .2)
 
 group-and-label-requires : tie.Need-group-and-label-requires
-group-and-label-requires c κs = let p = c .before .before .before .before .before .before .before .before .before .before .before .before .before .before .before .before .before .before .before .before .pre in let w = c .before .before .before .before .before .before .before .before .before .before .before .before .fill-table .ensures in let f = c .before .before .before .before .before .before .before .find-nodes .ensures in (p .0 .square .few, c .before .before .before .before .before .before .before .before .before .before .before .before .fill-table .kept .1 .1 .1 .1 .0 ∙ p .0 .square .cells, found-long _ _ _ _ (p .0) _ _ _ w _ _ _ f _ (p .2) (c .before .before .before .before .before .before .before .find-nodes .kept .1 .1 .0 ∙ p .1), p .3, found-rise _ _ _ _ (p .0) _ _ _ w _ _ _ f)
+group-and-label-requires c κs =
+    let after-find-nodes = c .before .before .before .before .before .before .before in
+    let after-fill-table = after-find-nodes .before .before .before .before .before in
+    let at-start = after-fill-table .before .before .before .before .before .before .before .before in
+    let p = at-start .pre in
+    let w = after-fill-table .fill-table .ensures in
+    let f = after-find-nodes .find-nodes .ensures in (
+      p .0 .square .few,
+      after-fill-table .fill-table .kept .1 .1 .1 .1 .0 ∙ p .0 .square .cells,
+      found-long _ _ _ _ (p .0) _ _ _ w _ _ _ f _ (p .2) (after-find-nodes .find-nodes .kept .1 .1 .0 ∙ p .1),
+      p .3,
+      found-rise _ _ _ _ (p .0) _ _ _ w _ _ _ f,
+    )
 
 same-length : tie.Need-same-length
 same-length c = search needs
@@ -46,7 +73,15 @@ same-length-4 : tie.Need-same-length-4
 same-length-4 c = search needs
 
 returns : tie.Need-returns
-returns c = let p = c .before .before .before .before .before .before .before .before .before .before .before .before .before .before .before .before .before .before .before .before .before .before .before .before .before .before .pre in let w = c .before .before .before .before .before .before .before .before .before .before .before .before .before .before .before .before .before .before .fill-table .ensures in c .before .before .before .before .before .group-and-label .ensures _ _ _ (places-long _ _ _ _ (p .0)) w (found-nodes _ _ _ _ (p .0) _ _ _ w _ _ _ (c .before .before .before .before .before .before .before .before .before .before .before .before .before .find-nodes .ensures))
+returns c =
+    let after-group-and-label = c .before .before .before .before .before in
+    let after-find-nodes = after-group-and-label .before .before .before .before .before .before .before .before in
+    let after-fill-table = after-find-nodes .before .before .before .before .before in
+    let at-start = after-fill-table .before .before .before .before .before .before .before .before in
+    let p = at-start .pre in
+    let w = after-fill-table .fill-table .ensures in
+    after-group-and-label .group-and-label .ensures _ _ _ (places-long _ _ _ _ (p .0)) w
+    (found-nodes _ _ _ _ (p .0) _ _ _ w _ _ _ (after-find-nodes .find-nodes .ensures))
 
 pub cluster-in-spec : {M : Type 1} → statement M
 cluster-in-spec =

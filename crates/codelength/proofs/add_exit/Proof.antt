@@ -1,4 +1,4 @@
--- `codelength::add_exit` meets its contract. Assumes nothing.
+-- `codelength::add_exit` meets its contract.
 use borrow.Author.Tests.{eq-eqb, ne-eqb}
 use Rattle.codelength.specs.Codelength.{addExit}
 use Rattle.codelength.proofs.add_exit.Statement.{statement}

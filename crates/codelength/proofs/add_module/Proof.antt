@@ -1,4 +1,4 @@
--- `codelength::add_module` meets its contract. Assumes nothing.
+-- `codelength::add_module` meets its contract.
 use Rattle.codelength.specs.Codelength.{addModule}
 use borrow.Author.Needs.{needs}
 use Rattle.codelength.proofs.add_module.Statement.{statement}
@@ -16,9 +16,10 @@ plogp-requires-3 c κs = search needs
 returns : tie.Need-returns
 unfolding addModule
 returns c =
-    let c4 = c .before .before .before .before in
-    let c6 = c4 .before .before in
-    rw (c6 .if1 .taken, c4 .plogp .ensures, c .before .before .plogp2 .ensures, c .before .plogp3 .ensures)
+    let after-plogp2 = c .before .before in
+    let after-plogp = after-plogp2 .before .before in
+    let at-if1 = after-plogp .before .before in
+    rw (at-if1 .if1 .taken, after-plogp .plogp .ensures, after-plogp2 .plogp2 .ensures, c .before .plogp3 .ensures)
 
 returns-2 : tie.Need-returns-2
 returns-2 c = rw (c .if1 .left)

@@ -1,4 +1,4 @@
--- `codelength::clear` meets its contract. The loop has cleared the elements below i. Assumes nothing.
+-- `codelength::clear` meets its contract. The loop has cleared the elements below i.
 use mathlib.Core.Path.{_≡_, refl}
 use native.Mathlib.Omega.{arith}
 use Prim.Native.Nat.{ℕ, _-_, _≤_, _<_}
@@ -6,7 +6,7 @@ use lib.ListN.{length, getD, length-set}
 use lib.Ieee.{nan}
 use Rattle.float.specs.Binary64.{zero64}
 use Rattle.codelength.proofs.Sums.{cleared}
-use Rattle.rng.proofs.Stores.{stored-below}
+use Rattle.lists.proofs.Stores.{stored-below}
 use borrow.Author.Needs.{needs}
 use Rattle.codelength.proofs.clear.Statement.{statement}
 use Rattle.codelength.proofs.clear.Tie as tie
@@ -33,13 +33,20 @@ loop-less : tie.Need-loop-less Inv-loop μ-loop
 loop-less c = search needs
 
 loop-again : tie.Need-loop-again Inv-loop μ-loop
-loop-again c = (stored-below _ (c .before .loop .xs) (c .before .loop .i) _ (c .loop-test .taken) (λ _. zero64) (c .before .loop .inv .0) refl, simp length-set (omega arith), omega arith)
+loop-again c =
+    let at-loop = c .before in (
+      stored-below _ (at-loop .loop .xs) (at-loop .loop .i) _ (c .loop-test .taken) (λ _. zero64) (at-loop .loop .inv .0) refl,
+      simp length-set (omega arith),
+      omega arith,
+    )
 
 same-length : tie.Need-same-length Inv-loop μ-loop
 same-length c = c .before .loop .inv .1
 
 returns : tie.Need-returns Inv-loop μ-loop
-returns c = cleared _ _ (c .before .loop .inv .1) (λ k h. c .before .loop .inv .0 k (omega arith))
+returns c =
+    let at-loop = c .before in
+    cleared _ _ (at-loop .loop .inv .1) (λ k h. at-loop .loop .inv .0 k (omega arith))
 
 pub clear-spec : {M : Type 1} → statement M
 clear-spec =

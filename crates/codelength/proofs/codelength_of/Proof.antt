@@ -1,4 +1,4 @@
--- `codelength::codelength_of` meets its contract. Assumes nothing.
+-- `codelength::codelength_of` meets its contract.
 use Rattle.codelength.specs.Codelength.{codelengthOf}
 use borrow.Author.Needs.{needs}
 use Rattle.codelength.proofs.codelength_of.Statement.{statement}
@@ -9,7 +9,9 @@ plogp-requires c κs = search needs
 
 returns : tie.Need-returns
 unfolding codelengthOf
-returns c = rw (c .before .before .plogp .ensures)
+returns c =
+    let after-plogp = c .before .before in
+    rw (after-plogp .plogp .ensures)
 
 pub codelength-of-spec : {M : Type 1} → statement M
 codelength-of-spec = tie.close (tie.spec plogp-requires returns)

@@ -1,5 +1,5 @@
--- `codelength::from_partition` meets its contract. Assumes nothing.
-use Rattle.map_state.specs.Arrays.{netOf}
+-- `codelength::from_partition` meets its contract.
+use Rattle.map_state.specs.Steps.{netOf}
 use Rattle.codelength.proofs.Sums.{from-partition-is}
 use borrow.Author.Needs.{needs}
 use Rattle.codelength.proofs.from_partition.Statement.{statement}
@@ -19,10 +19,12 @@ same-length-2 c = search needs
 
 returns : tie.Need-returns
 returns c =
-    let c6 = c .before .before .before .before .before .before in
-    let c15 = c6 .before .before .before .before .before .before .before .before .before in
-    let a = c15 .args in
-    from-partition-is (netOf (a .table .now) (a .stride) (a .strength .now) (a .d)) (a .partition .now) (c6 .sum-modules .ensures (a .d)) (c .sum-q .ensures)
+    let after-sum-modules = c .before .before .before .before .before .before in
+    let at-start = after-sum-modules .before .before .before .before .before .before .before .before .before in
+    let a = at-start .args in
+    let net = netOf (a .table .now) (a .stride) (a .strength .now) (a .d) in
+    from-partition-is net (a .partition .now)
+    (after-sum-modules .sum-modules .ensures (a .d)) (c .sum-q .ensures)
 
 pub from-partition-spec : {M : Type 1} → statement M
 from-partition-spec = tie.close (tie.spec sum-modules-requires sum-q-requires same-length same-length-2 returns)

@@ -1,6 +1,6 @@
--- `codelength::map_equation` meets its contract. Assumes nothing.
+-- `codelength::map_equation` meets its contract.
 use mathlib.Core.Path.{_∙_}
-use Rattle.map_state.specs.Arrays.{netOf}
+use Rattle.map_state.specs.Steps.{netOf}
 use Rattle.codelength.proofs.Sums.{codelength-is}
 use borrow.Author.Needs.{needs}
 use Rattle.codelength.proofs.map_equation.Statement.{statement}
@@ -11,9 +11,13 @@ sum-modules-requires c κs = search needs
 
 sum-terms-requires : tie.Need-sum-terms-requires
 sum-terms-requires c κs =
-    let c6 = c .before .before .before .before .before .before in
-    let c15 = c6 .before .before .before .before .before .before .before .before .before in
-    (c15 .pre .0 .firsts, c6 .sum-modules .kept .1 .1 .1 .1 .1 .0 ∙ c15 .pre .0 .exit, c6 .sum-modules .kept .1 .1 .1 .1 .1 .1 .0 ∙ c15 .pre .0 .sums, c15 .pre .1)
+    let after-sum-modules = c .before .before .before .before .before .before in
+    let at-start = after-sum-modules .before .before .before .before .before .before .before .before .before in (
+      at-start .pre .0 .firsts,
+      after-sum-modules .sum-modules .kept .1 .1 .1 .1 .1 .0 ∙ at-start .pre .0 .exit,
+      after-sum-modules .sum-modules .kept .1 .1 .1 .1 .1 .1 .0 ∙ at-start .pre .0 .sums,
+      at-start .pre .1,
+    )
 
 node-plogp-sum-requires : tie.Need-node-plogp-sum-requires
 node-plogp-sum-requires c κs = search needs
@@ -29,11 +33,16 @@ same-length-2 c = search needs
 
 returns : tie.Need-returns
 returns c =
-    let c9 = c .before .before .before .before .before .before .before .before .before in
-    let c9 = c9 in
-    let c18 = c9 .before .before .before .before .before .before .before .before .before in
-    let a = c18 .args in
-    (codelength-is (netOf (a .table .now) (a .stride) (a .strength .now) (a .d)) (a .partition .now) (c9 .sum-modules .ensures (a .d)) (c .before .before .sum-terms .ensures) (c .before .node-plogp-sum .ensures) (c .codelength-of .ensures), c9 .sum-modules .ensures (a .d))
+    let after-sum-terms = c .before .before in
+    let after-sum-modules = after-sum-terms .before .before .before .before .before .before .before in
+    let at-start = after-sum-modules .before .before .before .before .before .before .before .before .before in
+    let a = at-start .args in
+    let net = netOf (a .table .now) (a .stride) (a .strength .now) (a .d) in (
+      codelength-is net (a .partition .now)
+          (after-sum-modules .sum-modules .ensures (a .d)) (after-sum-terms .sum-terms .ensures) (c .before .node-plogp-sum .ensures)
+          (c .codelength-of .ensures),
+      after-sum-modules .sum-modules .ensures (a .d),
+    )
 
 pub map-equation-spec : {M : Type 1} → statement M
 map-equation-spec =

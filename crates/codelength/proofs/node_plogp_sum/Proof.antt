@@ -1,4 +1,4 @@
--- `codelength::node_plogp_sum` meets its contract. The loop: what is left to add, added to the sum so far, is the whole sum. Assumes nothing.
+-- `codelength::node_plogp_sum` meets its contract. The loop: what is left to add, added to the sum so far, is the whole sum.
 use mathlib.Core.Path.{_≡_, refl, _∙_, ap}
 use Prim.Native.Nat.{_-_}
 use lib.ListN.{length, drop}
@@ -35,7 +35,10 @@ loop-less : tie.Need-loop-less Inv-loop μ-loop
 loop-less c = search needs
 
 loop-again : tie.Need-loop-again Inv-loop μ-loop
-loop-again c = nodes-on _ _ _ _ _ (c .before .before .loop-test .taken) (ap (λ (x : Float). add64 (c .before .before .before .loop .a) x) (c .plogp .ensures)) ∙ c .before .before .before .loop .inv
+loop-again c =
+    let at-test = c .before .before in
+    let at-loop = at-test .before in
+    nodes-on _ _ _ _ _ (at-test .loop-test .taken) (ap (λ (x : Float). add64 (at-loop .loop .a) x) (c .plogp .ensures)) ∙ at-loop .loop .inv
 
 returns : tie.Need-returns Inv-loop μ-loop
 returns c = nodes-end _ _ _ _ (c .loop-test .left) ∙ c .before .loop .inv

@@ -1,4 +1,4 @@
--- `codelength::sum_terms` meets its contract. The loop: the groups whose lowest member is v or higher, added to the terms so far, give all terms. Assumes nothing.
+-- `codelength::sum_terms` meets its contract. The loop: the groups whose lowest member is v or higher, added to the terms so far, give all terms.
 use mathlib.Core.Path.{_≡_, _∙_, ap}
 use mathlib.Core.Bool.{cond}
 use Prim.Native.Nat.{ℕ, _-_}
@@ -53,14 +53,18 @@ loop-less c = search needs
 
 loop-again : tie.Need-loop-again Inv-loop μ-loop
 loop-again c =
-    let c5 = c .before .before .before .before .before in
-    let c5 = c5 in
-    let c6 = c5 .before in
-    let c11 = c6 .before .before .before .before .before in
-    let a = c11 .args in
-    let l = c6 .loop in
-    terms-on (a .d) (a .partition .now) (a .first .now) (a .exits .now) (a .strengths .now) (l .t) _ (l .v) (c11 .pre .3) (c5 .loop-test .taken)
-    (c .add-module .ensures ∙ ap (λ (z : ℕ). cond (eqb z (l .v)) (addModule (a .d) (l .t) (getD (a .exits .now) (l .v) nan) (getD (a .strengths .now) (l .v) nan)) (l .t)) (c .before .before .before .wide .ensures)) ∙ l .inv
+    let after-wide = c .before .before .before in
+    let at-test = after-wide .before .before in
+    let at-loop = at-test .before in
+    let at-start = at-loop .before .before .before .before .before in
+    let a = at-start .args in
+    let l = at-loop .loop in
+    terms-on (a .d) (a .partition .now) (a .first .now) (a .exits .now) (a .strengths .now) (l .t) _ (l .v) (at-start .pre .3)
+    (at-test .loop-test .taken)
+    (c .add-module .ensures ∙ ap
+    (λ (z : ℕ). cond (eqb z (l .v)) (addModule (a .d) (l .t) (getD (a .exits .now) (l .v) nan) (getD (a .strengths .now) (l .v) nan)) (l .t))
+    (after-wide .wide .ensures))
+    ∙ l .inv
 
 returns : tie.Need-returns Inv-loop μ-loop
 returns c = terms-end _ _ _ _ _ _ (c .loop-test .left) ∙ c .before .loop .inv

@@ -1,4 +1,4 @@
--- `distance::distance` meets its contract. Assumes nothing.
+-- `distance::distance` meets its contract.
 use borrow.Author.Needs.{needs}
 use Rattle.distance.specs.Distance.{euclidean}
 use Rattle.distance.proofs.Bound.{measured}

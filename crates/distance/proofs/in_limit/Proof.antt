@@ -1,4 +1,4 @@
--- `distance::in_limit` meets its contract. Assumes nothing.
+-- `distance::in_limit` meets its contract.
 use borrow.Author.Needs.{needs}
 use Rattle.distance.specs.Limit.{inLimit}
 use Rattle.distance.proofs.in_limit.Statement.{statement}

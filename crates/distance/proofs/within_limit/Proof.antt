@@ -1,4 +1,4 @@
--- `distance::within_limit` meets its contract. Assumes nothing.
+-- `distance::within_limit` meets its contract.
 use mathlib.Core.Path.{sym}
 use lib.Ieee.{ofBits, ofInt, neg}
 use Rattle.distance.proofs.Limit.{below-limit, up-to-limit}

@@ -1,4 +1,4 @@
--- `float::correct` meets its contract: q steps of 2 * r + 1 and more are taken at once (`steps` of `proofs/Correction.antt`). Assumes nothing.
+-- `float::correct` meets its contract: q steps of 2 * r + 1 and more are taken at once (`steps` of `proofs/Correction.antt`).
 use mathlib.Core.Path.{refl}
 use Prim.Native.Nat.{_+_, _*_, _/_}
 use native.Mathlib.Omega.{arith}
@@ -35,13 +35,20 @@ rem-count-up : tie.Need-rem-count-up
 rem-count-up c = search needs
 
 mul-count-up : tie.Need-mul-count-up
-mul-count-up c = omega (arith, step-small (c .before .before .args .d / (2 * c .before .before .args .r + 16)) (c .if2 .left))
+mul-count-up c =
+    let at-start = c .before .before in
+    omega (arith, step-small (at-start .args .d / (2 * at-start .args .r + 16)) (c .if2 .left))
 
 add-count-up-2 : tie.Need-add-count-up-2
-add-count-up-2 c = omega (arith, step-small (c .before .before .args .d / (2 * c .before .before .args .r + 16)) (c .if2 .left), step-left (c .before .before .args .r) (c .before .before .args .d))
+add-count-up-2 c =
+    let at-start = c .before .before in
+    let args = at-start .args in
+    omega (arith, step-small (args .d / (2 * args .r + 16)) (c .if2 .left), step-left (args .r) (args .d))
 
 count-up-requires-3 : tie.Need-count-up-requires-3
-count-up-requires-3 c κs = (search needs, steps (c .before .before .args .r) (c .before .before .args .d) _ _ _ (omega arith) refl (c .before .before .pre .1))
+count-up-requires-3 c κs =
+    let at-start = c .before .before in
+    (search needs, steps (at-start .args .r) (at-start .args .d) _ _ _ (omega arith) refl (at-start .pre .1))
 
 returns-3 : tie.Need-returns-3
 returns-3 c = search needs

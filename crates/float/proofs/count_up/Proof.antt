@@ -1,4 +1,4 @@
--- `float::count_up` meets its contract: r * r + d stays m * 2 ^ 54, and d falls. Assumes nothing.
+-- `float::count_up` meets its contract: r * r + d stays m * 2 ^ 54, and d falls.
 use mathlib.Core.Path.{_≡_}
 use Prim.Native.Nat.{_+_, _*_, _^_}
 use native.Mathlib.Omega.{arith}
@@ -20,16 +20,22 @@ mul-loop : tie.Need-mul-loop Inv-loop μ-loop
 mul-loop c = omega (arith, short _ _ _ (c .before .pre .0) (c .loop .inv))
 
 mul-d : tie.Need-mul-d Inv-loop μ-loop
-mul-d c = omega (arith, short _ _ _ (c .before .before .pre .0) (c .before .loop .inv))
+mul-d c =
+    let at-start = c .before .before in
+    omega (arith, short _ _ _ (at-start .pre .0) (c .before .loop .inv))
 
 add-d : tie.Need-add-d Inv-loop μ-loop
-add-d c = omega (arith, short _ _ _ (c .before .before .pre .0) (c .before .loop .inv))
+add-d c =
+    let at-start = c .before .before in
+    omega (arith, short _ _ _ (at-start .pre .0) (c .before .loop .inv))
 
 sub-d : tie.Need-sub-d Inv-loop μ-loop
 sub-d c = search needs
 
 add-r : tie.Need-add-r Inv-loop μ-loop
-add-r c = omega (arith, short _ _ _ (c .before .before .pre .0) (c .before .loop .inv))
+add-r c =
+    let at-start = c .before .before in
+    omega (arith, short _ _ _ (at-start .pre .0) (c .before .loop .inv))
 
 loop-less : tie.Need-loop-less Inv-loop μ-loop
 loop-less c = search needs
@@ -38,7 +44,9 @@ loop-again : tie.Need-loop-again Inv-loop μ-loop
 loop-again c = search needs
 
 returns : tie.Need-returns Inv-loop μ-loop
-returns c = ends _ _ _ (c .before .before .pre .0) (c .before .loop .inv) (c .loop-test .left)
+returns c =
+    let at-start = c .before .before in
+    ends _ _ _ (at-start .pre .0) (c .before .loop .inv) (c .loop-test .left)
 
 pub count-up-spec : {M : Type 1} → statement M
 count-up-spec =

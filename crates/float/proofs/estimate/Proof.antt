@@ -1,4 +1,4 @@
--- `float::estimate` is safe, and its answer short. Assumes nothing.
+-- `float::estimate` is safe, and its answer short.
 use Prim.Native.Nat.{_/_, _^_}
 use native.Mathlib.Omega.{arith}
 use lib.Dec.{le→leb}

@@ -1,4 +1,4 @@
--- `float::is_finite` meets its contract. Assumes nothing.
+-- `float::is_finite` meets its contract.
 use mathlib.Core.Path.{_≡_, refl}
 use mathlib.Core.Bool.{true, false}
 use lib.Ieee.{Float, nan, inf, fin, lt, neg, ofBits, nanBits}

@@ -1,4 +1,4 @@
--- `float::ln` meets its contract: the values that it answers by itself are in `proofs/Special.antt`. Assumes nothing.
+-- `float::ln` meets its contract: the values that it answers by itself are in `proofs/Special.antt`.
 use mathlib.Core.Path.{_≡_, sym, ap, _∙_, subst}
 use Prim.Native.Nat.{ℕ, _%_, _^_, _≤_, _<_}
 use native.Mathlib.Omega.{arith}
@@ -25,20 +25,28 @@ float-to-bits-b : tie.Need-float-to-bits-b
 float-to-bits-b c = known c
 
 returns-2 : tie.Need-returns-2
-returns-2 c = kept ln _ 0x7ff0_0000_0000_0000 (held (c .before .before)) (c .if2 .taken) ln-infinity
+returns-2 c =
+    let at-start = c .before .before in
+    kept ln _ 0x7ff0_0000_0000_0000 (held at-start) (c .if2 .taken) ln-infinity
 
 returns-3 : tie.Need-returns-3
-returns-3 c = let s = c .before .before .before in ln-zero (s .args .p) (held s) (c .if3 .taken)
+returns-3 c =
+    let at-start = c .before .before .before in
+    ln-zero (at-start .args .p) (held at-start) (c .if3 .taken)
 
 returns-4 : tie.Need-returns-4
 returns-4 c =
-    let e = c .before .before .before in
-    ln-negative (e .before .args .p) (held (e .before)) (known e) (c .if4 .taken)
+    let at-else1 = c .before .before .before in
+    let at-start = at-else1 .before in
+    ln-negative (at-start .args .p) (held at-start) (known at-else1) (c .if4 .taken)
 
 ln-positive-requires : tie.Need-ln-positive-requires
 ln-positive-requires c κs =
-    let e = c .before .before .before in
-    left (toBits binary64 (e .before .args .p)) (c .before .before .if2 .left) (c .before .if3 .left) (c .if4 .left) (in-range (e .before .args .p) (held (e .before)) (known e))
+    let at-if2 = c .before .before in
+    let at-else1 = at-if2 .before in
+    let at-start = at-else1 .before in
+    left (toBits binary64 (at-start .args .p)) (at-if2 .if2 .left) (c .before .if3 .left) (c .if4 .left)
+    (in-range (at-start .args .p) (held at-start) (known at-else1))
   where
     left : (b : ℕ) → (b ≡ 0x7ff0_0000_0000_0000 → ⊥) → (b % 0x8000_0000_0000_0000 ≡ 0 → ⊥) → b ≤ 0x8000_0000_0000_0000 → b % 2 ^ 63 ≤ 0x7ff0_0000_0000_0000
         → (0 < b) × (b < 0x7ff0_0000_0000_0000)
@@ -46,8 +54,8 @@ ln-positive-requires c κs =
 
 returns-5 : tie.Need-returns-5
 returns-5 c =
-    let s = c .before .before .before .before .before in
-    c .ln-positive .ensures ∙ ap ln (ofBits-toBits binary64 (s .args .p) (held s))
+    let at-start = c .before .before .before .before .before in
+    c .ln-positive .ensures ∙ ap ln (ofBits-toBits binary64 (at-start .args .p) (held at-start))
 
 pub ln-spec : {M : Type 1} → statement M
 ln-spec =

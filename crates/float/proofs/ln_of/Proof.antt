@@ -1,4 +1,4 @@
--- `float::ln_of` meets its contract. Assumes nothing.
+-- `float::ln_of` meets its contract.
 use mathlib.Core.Path.{ap}
 use lib.Ieee.{Float, nanBits}
 use borrow.Author.Needs.{needs}
@@ -17,8 +17,10 @@ float-from-bits-result c = search needs
 returns : tie.Need-returns
 unfolding lnOf
 returns c =
-    let s = div64 (sub64 (c .before .args .m) one64) (add64 (c .before .args .m) one64) in
-    ap (λ (t : Float). add64 (mul64 (c .before .args .k) ln2) (mul64 (mul64 two64 s) t)) (c .odd-series .ensures)
+    let at-start = c .before in
+    let args = at-start .args in
+    let s = div64 (sub64 (args .m) one64) (add64 (args .m) one64) in
+    ap (λ (t : Float). add64 (mul64 (args .k) ln2) (mul64 (mul64 two64 s) t)) (c .odd-series .ensures)
 
 pub ln-of-spec : {M : Type 1} → statement M
 ln-of-spec = tie.close (tie.spec odd-series-requires float-from-bits-result returns)

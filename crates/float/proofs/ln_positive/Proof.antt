@@ -1,4 +1,4 @@
--- `float::ln_positive` meets its contract. Assumes nothing.
+-- `float::ln_positive` meets its contract.
 use mathlib.Core.Path.{_≡_, refl, sym, ap, _∙_}
 use Prim.Native.Nat.{_+_, _*_, _^_}
 use native.Mathlib.Omega.{arith}
@@ -52,19 +52,26 @@ places-high = refl
 
 returns : tie.Need-returns
 returns c =
-    let l = c .before .before .before .before .before .before in
-    let u = l .before in
-    c .ln-of .ensures
-    ∙ ap (λ (z : Float). lnOf (sub64 (whole64 (l .normalize .result .e)) z) (ofBits binary64 (l .normalize .result .m + 1022 * 2 ^ 52))) places-low
-    ∙ sym (ln-low (u .before .args .b) _ _ _ _ (u .unpack .ensures) (l .normalize .ensures) (c .before .before .if1 .taken))
+    let at-if1 = c .before .before in
+    let after-normalize = at-if1 .before .before .before .before in
+    let after-unpack = after-normalize .before in
+    let at-start = after-unpack .before in
+    c .ln-of .ensures ∙ ap
+    (λ (z : Float). lnOf (sub64 (whole64 (after-normalize .normalize .result .e)) z)
+    (ofBits binary64 (after-normalize .normalize .result .m + 1022 * 2 ^ 52)))
+    places-low ∙ sym (ln-low (at-start .args .b) _ _ _ _ (after-unpack .unpack .ensures) (after-normalize .normalize .ensures) (at-if1 .if1 .taken))
 
 returns-2 : tie.Need-returns-2
 returns-2 c =
-    let l = c .before .before .before .before .before .before in
-    let u = l .before in
-    c .ln-of2 .ensures
-    ∙ ap (λ (z : Float). lnOf (sub64 (whole64 (l .normalize .result .e)) z) (ofBits binary64 (l .normalize .result .m + 1021 * 2 ^ 52))) places-high
-    ∙ sym (ln-high (u .before .args .b) _ _ _ _ (u .unpack .ensures) (l .normalize .ensures) (c .before .before .if1 .left))
+    let at-if1 = c .before .before in
+    let after-normalize = at-if1 .before .before .before .before in
+    let after-unpack = after-normalize .before in
+    let at-start = after-unpack .before in
+    c .ln-of2 .ensures ∙ ap
+    (λ (z : Float). lnOf (sub64 (whole64 (after-normalize .normalize .result .e)) z)
+    (ofBits binary64 (after-normalize .normalize .result .m + 1021 * 2 ^ 52)))
+    places-high ∙ sym
+    (ln-high (at-start .args .b) _ _ _ _ (after-unpack .unpack .ensures) (after-normalize .normalize .ensures) (at-if1 .if1 .left))
 
 pub ln-positive-spec : {M : Type 1} → statement M
 ln-positive-spec =

@@ -1,4 +1,4 @@
--- `float::odd_series` meets its contract: each of its literals is the whole number that the definition names. Assumes nothing.
+-- `float::odd_series` meets its contract: each of its literals is the whole number that the definition names.
 use mathlib.Core.Path.{refl}
 use lib.Ieee.{ofBits, ofInt}
 use Rattle.float.specs.Ln.{series}

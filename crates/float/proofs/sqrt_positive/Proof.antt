@@ -1,4 +1,4 @@
--- `float::sqrt_positive` meets its contract. Assumes nothing.
+-- `float::sqrt_positive` meets its contract.
 use borrow.Author.Needs.{needs}
 use native.Mathlib.Omega.{arith}
 use Rattle.float.proofs.Special.{bits-number}
@@ -35,11 +35,11 @@ float-from-bits-result c = bits-number _ (omega arith)
 
 returns : tie.Need-returns
 returns c =
-    let d = c .before in
-    let s = d .before in
-    let l = s .before in
-    let u = l .before in
-    all _ _ _ _ _ _ _ _ (u .unpack .ensures) (l .normalize .ensures) (s .even-exponent .ensures) (d .whole-root .ensures)
+    let after-even-exponent = c .before .before in
+    let after-normalize = after-even-exponent .before in
+    let after-unpack = after-normalize .before in
+    all _ _ _ _ _ _ _ _ (after-unpack .unpack .ensures) (after-normalize .normalize .ensures) (after-even-exponent .even-exponent .ensures)
+    (c .before .whole-root .ensures)
 
 pub sqrt-positive-spec : {M : Type 1} → statement M
 sqrt-positive-spec =

@@ -1,4 +1,4 @@
--- `float::square` meets its contract, by two halves of 27 binary digits. Assumes nothing.
+-- `float::square` meets its contract, by two halves of 27 binary digits.
 use mathlib.Core.Path.{refl, ap, _∙_}
 use Prim.Native.Nat.{ℕ, _*_, _/_, _%_, _<_}
 use native.Mathlib.Omega.{arith}

@@ -1,6 +1,6 @@
--- `infomap::keep` meets its contract. Assumes nothing.
-use Rattle.map_state.specs.Arrays.{netOf}
-use Rattle.infomap.specs.Infomap.{groupingOf}
+-- `infomap::keep` meets its contract.
+use Rattle.map_state.specs.Steps.{netOf}
+use Rattle.infomap.specs.Steps.{groupingOf}
 use Rattle.infomap.proofs.Trials.{keep-yes, keep-no}
 use borrow.Author.Needs.{needs}
 use Rattle.infomap.proofs.keep.Statement.{statement}
@@ -11,9 +11,8 @@ map-equation-requires c κs = search needs
 
 copy-requires : tie.Need-copy-requires
 copy-requires c κs =
-    let c16 = c .before .before .before .before .before .before .before .before .before .before .before .before .before .before .before .before in
-    let c16 = c16 in
-    c16 .pre .2
+    let at-start = c .before .before .before .before .before .before .before .before .before .before .before .before .before .before .before .before in
+    at-start .pre .2
 
 trial-mark-requires : tie.Need-trial-mark-requires
 trial-mark-requires c κs = search needs
@@ -29,12 +28,14 @@ same-length-3 c = search needs
 
 returns : tie.Need-returns
 returns c =
-    let c5 = c .before .before .before .before .before in
-    let c5 = c5 in
-    let c10 = c5 .before .before .before .before .before in
-    let c20 = c10 .before .before .before .before .before .before .before .before .before .before in
-    let a = c20 .args in
-    λ s p q r. keep-yes (netOf (a .table .now) (a .stride) (a .strength .now) (a .d)) (groupingOf (a .best .now) (a .k)) s p (c10 .map-equation .ensures .0) q r (c5 .if1 .taken) (c .before .before .before .copy .ensures) (c .trial-mark .ensures)
+    let after-copy = c .before .before .before in
+    let at-if1 = after-copy .before .before in
+    let after-map-equation = at-if1 .before .before .before .before .before in
+    let at-start = after-map-equation .before .before .before .before .before .before .before .before .before .before in
+    let a = at-start .args in
+    let net = netOf (a .table .now) (a .stride) (a .strength .now) (a .d) in
+    λ s p q r. keep-yes net (groupingOf (a .best .now) (a .k)) s p
+    (after-map-equation .map-equation .ensures .0) q r (at-if1 .if1 .taken) (after-copy .copy .ensures) (c .trial-mark .ensures)
 
 same-length-4 : tie.Need-same-length-4
 same-length-4 c = search needs
@@ -44,10 +45,12 @@ same-length-5 c = search needs
 
 returns-2 : tie.Need-returns-2
 returns-2 c =
-    let c5 = c .before .before .before .before .before in
-    let c15 = c5 .before .before .before .before .before .before .before .before .before .before in
-    let a = c15 .args in
-    λ s p q r. keep-no (netOf (a .table .now) (a .stride) (a .strength .now) (a .d)) (groupingOf (a .best .now) (a .k)) s p (c5 .map-equation .ensures .0) (c .if1 .left)
+    let after-map-equation = c .before .before .before .before .before in
+    let at-start = after-map-equation .before .before .before .before .before .before .before .before .before .before in
+    let a = at-start .args in
+    let net = netOf (a .table .now) (a .stride) (a .strength .now) (a .d) in
+    λ s p q r. keep-no net (groupingOf (a .best .now) (a .k)) s p
+    (after-map-equation .map-equation .ensures .0) (c .if1 .left)
 
 pub keep-spec : {M : Type 1} → statement M
 keep-spec =

@@ -1,6 +1,6 @@
--- `infomap::kept_grouping` meets its contract. Assumes nothing.
+-- `infomap::kept_grouping` meets its contract.
 use mathlib.Core.Path.{sym, _∙_, ap}
-use Rattle.map_state.specs.Arrays.{netOf}
+use Rattle.map_state.specs.Steps.{netOf}
 use Rattle.infomap.specs.Infomap.{markOf, bestOfThree}
 use Rattle.infomap.proofs.Trials.{kept-links, kept-none}
 use borrow.Author.Needs.{needs}
@@ -33,14 +33,13 @@ same-length-6 c = search needs
 
 returns : tie.Need-returns
 returns c =
-    let c12 = c .before .before .before .before .before .before .before .before .before .before .before .before in
-    let c12 = c12 in
-    let c19 = c12 .before .before .before .before .before .before .before in
-    let c20 = c19 .before in
-    let c29 = c20 .before .before .before .before .before .before .before .before .before in
-    let a = c29 .args in
-    let n = netOf (a .table .now) (a .stride) (a .strength .now) (a .d) in
-    kept-links n (a .seed) (c20 .if1 .taken) (c12 .best-of-three .ensures ∙ ap (bestOfThree n) (c19 .seeded .ensures))
+    let after-best-of-three = c .before .before .before .before .before .before .before .before .before .before .before .before in
+    let after-seeded = after-best-of-three .before .before .before .before .before .before .before in
+    let at-if1 = after-seeded .before in
+    let at-start = at-if1 .before .before .before .before .before .before .before .before .before in
+    let a = at-start .args in
+    let net = netOf (a .table .now) (a .stride) (a .strength .now) (a .d) in
+    kept-links net (a .seed) (at-if1 .if1 .taken) (after-best-of-three .best-of-three .ensures ∙ ap (bestOfThree net) (after-seeded .seeded .ensures))
 
 fill-requires : tie.Need-fill-requires
 fill-requires c κs = search needs
@@ -51,10 +50,13 @@ same-length-7 c = search needs
 returns-2 : tie.Need-returns-2
 unfolding markOf
 returns-2 c =
-    let c4 = c .before .before .before .before in
-    let c13 = c4 .before .before .before .before .before .before .before .before .before in
-    let a = c13 .args in
-    kept-none (netOf (a .table .now) (a .stride) (a .strength .now) (a .d)) (a .seed) _ (c4 .if1 .left) (c13 .pre .2 ∙ sym (c13 .pre .0 .nodes)) (c .before .before .fill .ensures)
+    let after-fill = c .before .before in
+    let at-if1 = after-fill .before .before in
+    let at-start = at-if1 .before .before .before .before .before .before .before .before .before in
+    let a = at-start .args in
+    let net = netOf (a .table .now) (a .stride) (a .strength .now) (a .d) in
+    kept-none net (a .seed) _ (at-if1 .if1 .left)
+    (at-start .pre .2 ∙ sym (at-start .pre .0 .nodes)) (after-fill .fill .ensures)
 
 pub kept-grouping-spec : {M : Type 1} → statement M
 kept-grouping-spec =

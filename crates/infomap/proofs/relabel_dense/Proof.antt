@@ -1,11 +1,11 @@
--- `infomap::relabel_dense` meets its contract. The loop has labelled the nodes below v, and `next` counts the groups whose first member is below v. Assumes nothing.
+-- `infomap::relabel_dense` meets its contract. The loop has labelled the nodes below v, and `next` counts the groups whose first member is below v.
 use mathlib.Core.Path.{_≡_, refl, _∙_}
 use Prim.Native.Nat.{ℕ, _-_, _<_}
 use native.Mathlib.Omega.{arith}
 use lib.ListN.{length, getD, length-set}
 use Rattle.infomap.specs.Infomap.{rank}
 use Rattle.map_state.proofs.Leaders.{lowest-of}
-use Rattle.rng.proofs.Stores.{stored-below}
+use Rattle.lists.proofs.Stores.{stored-below}
 use Rattle.infomap.proofs.Labels.{labelAt, rank-on, rank-le, label-on, is-relabelled}
 use borrow.Author.Needs.{needs}
 use Rattle.infomap.proofs.relabel_dense.Statement.{statement}
@@ -32,18 +32,19 @@ lowest-requires c κs = search needs
 
 mul-choose : tie.Need-mul-choose Inv-loop μ-loop
 mul-choose c =
-    let c6 = c .before .before .before .before .before .before in
-    let c6 = c6 in
-    let a = c6 .args in
-    omega (arith, c .lowest .ensures, lowest-of (a .partition .now) (c .before .before .before .loop .v) (c .before .before .loop-test .taken), c6 .pre .1)
+    let at-test = c .before .before in
+    let at-loop = at-test .before in
+    let at-start = at-loop .before .before .before in
+    let a = at-start .args in
+    omega (arith, c .lowest .ensures, lowest-of (a .partition .now) (at-loop .loop .v) (at-test .loop-test .taken), at-start .pre .1)
 
 slice-read-choose : tie.Need-slice-read-choose Inv-loop μ-loop
 slice-read-choose c =
-    let c4 = c .before .before .before .before in
-    let c4 = c4 in
-    let c7 = c4 .before .before .before in
-    let a = c7 .args in
-    omega (arith, c .before .lowest .ensures, lowest-of (a .partition .now) (c4 .loop .v) (c .before .before .before .loop-test .taken))
+    let at-test = c .before .before .before in
+    let at-loop = at-test .before in
+    let at-start = at-loop .before .before .before in
+    let a = at-start .args in
+    omega (arith, c .before .lowest .ensures, lowest-of (a .partition .now) (at-loop .loop .v) (at-test .loop-test .taken))
 
 choose-requires : tie.Need-choose-requires Inv-loop μ-loop
 choose-requires c κs = search needs
@@ -56,11 +57,11 @@ slice-write-labels c = search needs
 
 add-choose : tie.Need-add-choose Inv-loop μ-loop
 add-choose c =
-    let c4 = c .before .before .before .before in
-    let c5 = c4 .before in
-    let c8 = c5 .before .before .before in
-    let a = c8 .args in
-    omega (arith, c5 .loop .inv .1, rank-le (a .partition .now) (c5 .loop .v), c8 .pre .1, c4 .loop-test .taken)
+    let at-test = c .before .before .before .before in
+    let at-loop = at-test .before in
+    let at-start = at-loop .before .before .before in
+    let a = at-start .args in
+    omega (arith, at-loop .loop .inv .1, rank-le (a .partition .now) (at-loop .loop .v), at-start .pre .1, at-test .loop-test .taken)
 
 choose-requires-2 : tie.Need-choose-requires-2 Inv-loop μ-loop
 choose-requires-2 c κs = search needs
@@ -73,14 +74,16 @@ loop-less c = search needs
 
 loop-again : tie.Need-loop-again Inv-loop μ-loop
 loop-again c =
-    let c5 = c .before .before .before .before .before in
-    let c5 = c5 in
-    let c6 = c5 .before in
-    let c9 = c6 .before .before .before in
-    let a = c9 .args in
-    let l = c6 .loop in
-    let f = c .before .before .before .lowest .ensures in (
-      stored-below _ (l .labels) (l .v) (c .before .choose .result) (omega arith) (labelAt (a .partition .now)) (l .inv .0) (label-on (a .partition .now) (l .labels) (l .v) (c5 .loop-test .taken) f (l .inv .1) (l .inv .0) (c .before .choose .ensures)),
+    let after-choose = c .before in
+    let after-lowest = after-choose .before .before in
+    let at-test = after-lowest .before .before in
+    let at-loop = at-test .before in
+    let at-start = at-loop .before .before .before in
+    let a = at-start .args in
+    let l = at-loop .loop in
+    let f = after-lowest .lowest .ensures in (
+      stored-below _ (l .labels) (l .v) (after-choose .choose .result) (omega arith) (labelAt (a .partition .now)) (l .inv .0)
+          (label-on (a .partition .now) (l .labels) (l .v) (at-test .loop-test .taken) f (l .inv .1) (l .inv .0) (after-choose .choose .ensures)),
       rank-on (a .partition .now) (l .v) f (l .inv .1) (c .choose2 .ensures),
       simp length-set (omega arith),
     )
@@ -89,7 +92,10 @@ same-length : tie.Need-same-length Inv-loop μ-loop
 same-length c = c .before .loop .inv .2
 
 returns : tie.Need-returns Inv-loop μ-loop
-returns c = is-relabelled _ _ (c .before .loop .inv .2 ∙ c .before .before .before .before .pre .0) (λ k h. c .before .loop .inv .0 k (omega arith))
+returns c =
+    let at-loop = c .before in
+    let at-start = at-loop .before .before .before in
+    is-relabelled _ _ (at-loop .loop .inv .2 ∙ at-start .pre .0) (λ k h. at-loop .loop .inv .0 k (omega arith))
 
 pub relabel-dense-spec : {M : Type 1} → statement M
 relabel-dense-spec =

@@ -1,4 +1,4 @@
--- `infomap::run_infomap` meets its contract. Assumes nothing.
+-- `infomap::run_infomap` meets its contract.
 use mathlib.Core.Path.{_≡_, refl, sym}
 use native.Mathlib.Omega.{arith}
 use Prim.Native.Nat.{ℕ, _-_, _≤_}
@@ -75,10 +75,9 @@ part-best-end c = search needs
 
 run-in-requires : tie.Need-run-in-requires
 run-in-requires c κs =
-    let c10 = c .before .before .before .before .before .before .before .before .before .before in
-    let c10 = c10 in
-    let p = c10 .pre in
-    let n = length (c10 .args .labels .now) in
+    let at-start = c .before .before .before .before .before .before .before .before .before .before in
+    let p = at-start .pre in
+    let n = length (at-start .args .labels .now) in
     let few : n ≤ 512 = omega (arith, p .wide, p .narrow) in
     let i : length (take (n - 0) (drop 0 (replicate {A = ℕ} 512 0))) ≡ n = part-of (replicate {A = ℕ} 512 0) n few in
     let f : length (take (n - 0) (drop 0 (replicate {A = Float} 512 zero64))) ≡ n = part-of (replicate {A = Float} 512 zero64) n few in

@@ -1,4 +1,4 @@
--- `infomap::trial_mark` meets its contract. Assumes nothing.
+-- `infomap::trial_mark` meets its contract.
 use Rattle.infomap.specs.Infomap.{markOf, trialMark}
 use Rattle.infomap.proofs.trial_mark.Statement.{statement}
 use Rattle.infomap.proofs.trial_mark.Tie as tie

@@ -1,5 +1,5 @@
 -- `input::finish` meets its contract.
-use Rattle.input.specs.Calls.{finishedAs}
+use Rattle.input.proofs.Joined.{ends-whole, ends-broken, more-goes-on, failed-is-no-end}
 use borrow.Author.Needs.{needs}
 use Rattle.input.proofs.finish.Statement.{statement}
 use Rattle.input.proofs.finish.Tie as tie
@@ -23,16 +23,13 @@ refuse-unread-requires-2 : tie.Need-refuse-unread-requires-2
 refuse-unread-requires-2 c κs = search needs
 
 returns : tie.Need-returns
-unfolding finishedAs
-returns c = rw (c .before .enum-told .given .1) (c .finish .ensures)
+returns c = ends-whole (c .before .enum-told .given .1) (c .finish .ensures)
 
 returns-2 : tie.Need-returns-2
-unfolding finishedAs
-returns-2 c = rw (c .before .enum-told2 .given .1) (c .refuse-unread .ensures)
+returns-2 c = ends-broken (more-goes-on (c .before .enum-told2 .given .1)) (c .refuse-unread .ensures)
 
 returns-3 : tie.Need-returns-3
-unfolding finishedAs
-returns-3 c = rw (c .before .enum-told3 .given .1) (c .refuse-unread2 .ensures)
+returns-3 c = ends-broken (failed-is-no-end (c .before .enum-told3 .given .1)) (c .refuse-unread2 .ensures)
 
 pub finish-spec : {M : Type 1} → statement M
 finish-spec =

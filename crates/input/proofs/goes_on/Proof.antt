@@ -1,5 +1,5 @@
 -- `input::goes_on` meets its contract.
-use Rattle.input.specs.Calls.{goesOn}
+use Rattle.input.specs.Steps.{goesOn}
 use borrow.Author.Needs.{needs}
 use Rattle.input.proofs.goes_on.Statement.{statement}
 use Rattle.input.proofs.goes_on.Tie as tie

@@ -25,7 +25,10 @@ same-length-5 : tie.Need-same-length-5
 same-length-5 c = search needs
 
 returns : tie.Need-returns
-returns c = let t = c .before .before .before .before .before .before .before .before .before .before .before .read-pieces .ensures in (t .0, rw (c .finish .ensures) (t .1 .finish))
+returns c =
+    let after-read-pieces = c .before .before .before .before .before .before .before .before .before .before .before in
+    let t = after-read-pieces .read-pieces .ensures in
+    (t .0, c .finish .ensures .end (t .1))
 
 pub read-input-spec : {M : Type 1} → statement M
 read-input-spec =

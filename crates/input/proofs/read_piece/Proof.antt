@@ -40,9 +40,11 @@ same-length-5 c = search needs
 
 returns : tie.Need-returns
 returns c =
-    let g = c .before .before .before .before .before .before .before .before .before .before .before .before .before .before .before .before .before .before .read in (
+    let after-take-piece = c .before .before .before .before .before .before .before .before .before .before in
+    let at-read = after-take-piece .before .before .before .before .before .before .before .before in
+    let g = at-read .read in (
       record { count = g .result; buffer = g .last .1 .0; could = subst (λ (n : ℕ). Moved n (g .result)) (sym (g .kept .1 .0)) (g .ensures) },
-      rw (toZ-ofZ {w = w64} (record { sfits = g .ok })) at (c .before .before .before .before .before .before .before .before .before .before .take-piece .ensures),
+      rw (toZ-ofZ {w = w64} (record { sfits = g .ok })) at (after-take-piece .take-piece .ensures),
     )
 
 pub read-piece-spec : {M : Type 1} → statement M

@@ -34,11 +34,12 @@ same-length-5 c = search needs
 
 returns : tie.Need-returns
 returns c =
-    let fed = c .before .before .before .before .before .before .before .before .before .before .before in
-    let counted = fed .before .before .before .before .before .before .before in
-    let fits = counted .before .before .before .before .before .before .before .fits .got in
+    let after-feed = c .before .before .before .before .before .before .before .before .before .before .before in
+    let after-count = after-feed .before .before .before .before .before .before .before in
+    let at-fits = after-count .before .before .before .before .before .before .before in
+    let fits = at-fits .fits .got in
     record {
-      read = taken-first _ _ _ _ _ (rw (toZ-ofZ fits) at (counted .count .ensures .1)) (fed .feed .ensures);
+      read = taken-first _ _ _ (rw (toZ-ofZ fits) at (after-count .count .ensures .1)) (after-feed .feed .ensures);
       next = rw (toZ-ofZ fits) at (c .next-of .ensures);
     }
 

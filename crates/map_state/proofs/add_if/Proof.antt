@@ -1,4 +1,4 @@
--- `map_state::add_if` meets its contract. Assumes nothing.
+-- `map_state::add_if` meets its contract.
 use Rattle.map_state.proofs.add_if.Statement.{statement}
 use Rattle.map_state.proofs.add_if.Tie as tie
 

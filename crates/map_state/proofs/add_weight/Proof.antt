@@ -1,4 +1,4 @@
--- `map_state::add_weight` meets its contract. Assumes nothing.
+-- `map_state::add_weight` meets its contract.
 use Rattle.map_state.proofs.add_weight.Statement.{statement}
 use Rattle.map_state.proofs.add_weight.Tie as tie
 

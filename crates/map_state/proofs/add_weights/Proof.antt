@@ -1,4 +1,4 @@
--- `map_state::add_weights` meets its contract. The loop: what is left to add, added to the sum so far, is the whole sum. Assumes nothing.
+-- `map_state::add_weights` meets its contract. The loop: what is left to add, added to the sum so far, is the whole sum.
 use mathlib.Core.Path.{_≡_, refl, _∙_}
 use Prim.Native.Nat.{_-_}
 use lib.ListN.{length, drop}
@@ -33,7 +33,10 @@ loop-less : tie.Need-loop-less Inv-loop μ-loop
 loop-less c = search needs
 
 loop-again : tie.Need-loop-again Inv-loop μ-loop
-loop-again c = weights-on _ _ _ _ (c .before .before .loop-test .taken) (c .add-weight .ensures) ∙ c .before .before .before .loop .inv
+loop-again c =
+    let at-test = c .before .before in
+    let at-loop = at-test .before in
+    weights-on _ _ _ _ (at-test .loop-test .taken) (c .add-weight .ensures) ∙ at-loop .loop .inv
 
 returns : tie.Need-returns Inv-loop μ-loop
 returns c = weights-end _ _ _ (c .loop-test .left) ∙ c .before .loop .inv

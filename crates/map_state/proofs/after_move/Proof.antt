@@ -1,4 +1,4 @@
--- `map_state::after_move` meets its contract. Assumes nothing.
+-- `map_state::after_move` meets its contract.
 use mathlib.Core.Path.{refl}
 use Rattle.map_state.specs.MapState.{afterMove}
 use borrow.Author.Needs.{needs}

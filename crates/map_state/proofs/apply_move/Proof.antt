@@ -1,9 +1,9 @@
--- `map_state::apply_move` meets its contract. The steps of the definition one by one, with the lowest members kept. Assumes nothing.
+-- `map_state::apply_move` meets its contract. The steps of the definition one by one, with the lowest members kept.
 use mathlib.Core.Path.{sym, _∙_, ap₂}
 use native.Mathlib.Omega.{arith}
 use lib.ListN.{getD, set, length-set}
 use Rattle.map_state.specs.MapState.{lowest, movedFrom}
-use Rattle.map_state.specs.Arrays.{stateOf, netOf}
+use Rattle.map_state.specs.Steps.{stateOf, netOf}
 use Rattle.map_state.specs.declared.ModuleStats.{ModuleStats}
 use Rattle.map_state.proofs.Leaders.{lowest-le, firsts-move, apply-move-is, rowed, stats-some, stats-few}
 use borrow.Author.Needs.{needs}
@@ -18,12 +18,12 @@ slice-read-g c = search needs
 
 move-of-requires : tie.Need-move-of-requires
 move-of-requires c κs =
-    let c8 = c .before .before .before .before .before .before .before .before in
-    let c8 = c8 in
-    let a = c8 .args in (
-      rowed (a .table .now) (a .stride) (a .strength .now) (a .partition .now) (a .first .now) (a .exits .now) (a .strengths .now) (a .u) (c8 .pre .0) (c8 .pre .1),
-      stats-some (a .partition .now) (a .exits .now) (a .strengths .now) (a .u) (c8 .pre .1) (c8 .pre .2),
-      stats-few (a .partition .now) (a .exits .now) (a .strengths .now) (a .h) (c8 .pre .0 .few) (c8 .pre .3),
+    let at-start = c .before .before .before .before .before .before .before .before in
+    let a = at-start .args in (
+      rowed (a .table .now) (a .stride) (a .strength .now) (a .partition .now) (a .first .now) (a .exits .now) (a .strengths .now) (a .u)
+          (at-start .pre .0 .0) (at-start .pre .0 .1),
+      stats-some (a .partition .now) (a .exits .now) (a .strengths .now) (a .u) (at-start .pre .0 .1) (at-start .pre .1 .0),
+      stats-few (a .partition .now) (a .exits .now) (a .strengths .now) (a .h) (at-start .pre .0 .0 .few) (at-start .pre .1 .1),
     )
 
 mul-partition : tie.Need-mul-partition
@@ -40,46 +40,62 @@ lowest-requires-2 c κs = search needs
 
 cast-renew-first : tie.Need-cast-renew-first
 cast-renew-first c =
-    let c4 = c .before .before .before .before in
-    let c17 = c4 .before .before .before .before .before .before .before .before .before .before .before .before .before in
-    let a = c17 .args in
-    omega (arith, c4 .lowest .ensures, lowest-le (getD (a .partition .now) (a .u) 0) (set (a .partition .now) (a .u) (a .h)), length-set (a .partition .now) (a .u) (a .h), c17 .pre .0 .few)
+    let after-lowest = c .before .before .before .before in
+    let at-start = after-lowest .before .before .before .before .before .before .before .before .before .before .before .before .before in
+    let a = at-start .args in
+    omega (
+      arith,
+      after-lowest .lowest .ensures,
+      lowest-le (getD (a .partition .now) (a .u) 0) (set (a .partition .now) (a .u) (a .h)),
+      length-set (a .partition .now) (a .u) (a .h),
+      at-start .pre .0 .0 .few,
+    )
 
 cast-renew-first-2 : tie.Need-cast-renew-first-2
 cast-renew-first-2 c =
-    let c17 = c .before .before .before .before .before .before .before .before .before .before .before .before .before .before .before .before .before in
-    let c17 = c17 in
-    let a = c17 .args in
-    omega (arith, c .before .before .lowest2 .ensures, lowest-le (a .h) (set (a .partition .now) (a .u) (a .h)), length-set (a .partition .now) (a .u) (a .h), c17 .pre .0 .few)
+    let after-lowest2 = c .before .before in
+    let at-start = after-lowest2 .before .before .before .before .before .before .before .before .before .before .before .before .before .before .before in
+    let a = at-start .args in
+    omega (
+      arith,
+      after-lowest2 .lowest2 .ensures,
+      lowest-le (a .h) (set (a .partition .now) (a .u) (a .h)),
+      length-set (a .partition .now) (a .u) (a .h),
+      at-start .pre .0 .0 .few,
+    )
 
 renew-first-requires : tie.Need-renew-first-requires
-renew-first-requires c κs = search needs
+renew-first-requires c κs =
+    let at-start = c .before .before .before .before .before .before .before .before .before .before .before .before .before .before .before .before .before in
+    let args = at-start .args in
+    at-start .pre .0 .0 .firsts ∙ sym (length-set (args .partition .now) (args .u) (args .h))
 
-put-requires : tie.Need-put-requires
-put-requires c κs = search needs
+store-requires : tie.Need-store-requires
+store-requires c κs = search needs
 
-put-requires-2 : tie.Need-put-requires-2
-put-requires-2 c κs = search needs
+store-requires-2 : tie.Need-store-requires-2
+store-requires-2 c κs = search needs
 
-put-requires-3 : tie.Need-put-requires-3
-put-requires-3 c κs = search needs
+store-requires-3 : tie.Need-store-requires-3
+store-requires-3 c κs = search needs
 
-put-requires-4 : tie.Need-put-requires-4
-put-requires-4 c κs = search needs
+store-requires-4 : tie.Need-store-requires-4
+store-requires-4 c κs = search needs
 
 sum-q-requires : tie.Need-sum-q-requires
 sum-q-requires c κs =
-    let c13 = c .before .before .before .before .before .before .before .before .before .before .before .before .before in
-    let c13 = c13 in
-    let c17 = c13 .before .before .before .before in
-    let c21 = c17 .before .before .before .before in
-    let c24 = c21 .before .before .before in
-    let c26 = c24 .before .before in
-    let c39 = c26 .before .before .before .before .before .before .before .before .before .before .before .before .before in
-    let a = c39 .args in (
-      c21 .renew-first .kept .1 .0 ∙ c39 .pre .0 .firsts ∙ sym (length-set (a .partition .now) (a .u) (a .h)),
-      c13 .put2 .kept .0 ∙ c17 .put .kept .0 ∙ c39 .pre .0 .exit ∙ sym (length-set (a .partition .now) (a .u) (a .h)),
-      firsts-move (a .partition .now) (a .first .now) _ (a .u) (a .h) (c39 .pre .1) (c39 .pre .4) (c26 .lowest .ensures) (c24 .lowest2 .ensures) (c21 .renew-first .ensures),
+    let after-store2 = c .before .before .before .before .before .before .before .before .before .before .before .before .before in
+    let after-store = after-store2 .before .before .before .before in
+    let after-renew-first = after-store .before .before .before .before in
+    let after-lowest2 = after-renew-first .before .before .before in
+    let after-lowest = after-lowest2 .before .before in
+    let at-start = after-lowest .before .before .before .before .before .before .before .before .before .before .before .before .before in
+    let a = at-start .args in (
+      after-renew-first .renew-first .kept .1 .0 ∙ at-start .pre .0 .0 .firsts ∙ sym (length-set (a .partition .now) (a .u) (a .h)),
+      after-store2 .store2 .kept .0 ∙ after-store .store .kept .0 ∙ at-start .pre .0 .0 .exit ∙ sym
+          (length-set (a .partition .now) (a .u) (a .h)),
+      firsts-move (a .partition .now) (a .first .now) _ (a .u) (a .h) (at-start .pre .0 .1) (at-start .pre .0 .2) (after-lowest .lowest .ensures)
+          (after-lowest2 .lowest2 .ensures) (after-renew-first .renew-first .ensures),
     )
 
 same-length : tie.Need-same-length
@@ -96,21 +112,24 @@ same-length-4 c = search needs
 
 returns : tie.Need-returns
 returns c =
-    let c6 = c .before .before .before .before .before .before in
-    let c10 = c6 .before .before .before .before in
-    let c14 = c10 .before .before .before .before in
-    let c18 = c14 .before .before .before .before in
-    let c22 = c18 .before .before .before .before in
-    let c25 = c22 .before .before .before in
-    let c27 = c25 .before .before in
-    let c31 = c27 .before .before .before .before in
-    let c40 = c31 .before .before .before .before .before .before .before .before .before in
-    let a = c40 .args in
-    let n = netOf (a .table .now) (a .stride) (a .strength .now) (a .d) in (
-      (λ q. apply-move-is n (stateOf (a .partition .now) (a .exits .now) (a .strengths .now) q) (a .u) (a .h)
-          (c31 .move-of .ensures (a .d) ∙ ap₂ (λ (x y : ModuleStats). movedFrom n (a .partition .now) (a .u) (a .h) x y) (c40 .pre .2) (c40 .pre .3))
-          (c27 .lowest .ensures) (c25 .lowest2 .ensures) (c18 .put .ensures) (c14 .put2 .ensures) (c10 .put3 .ensures) (c6 .put4 .ensures) (c .sum-q .ensures)),
-      firsts-move (a .partition .now) (a .first .now) _ (a .u) (a .h) (c40 .pre .1) (c40 .pre .4) (c27 .lowest .ensures) (c25 .lowest2 .ensures) (c22 .renew-first .ensures),
+    let after-store4 = c .before .before .before .before .before .before in
+    let after-store3 = after-store4 .before .before .before .before in
+    let after-store2 = after-store3 .before .before .before .before in
+    let after-store = after-store2 .before .before .before .before in
+    let after-renew-first = after-store .before .before .before .before in
+    let after-lowest2 = after-renew-first .before .before .before in
+    let after-lowest = after-lowest2 .before .before in
+    let after-move-of = after-lowest .before .before .before .before in
+    let at-start = after-move-of .before .before .before .before .before .before .before .before .before in
+    let a = at-start .args in
+    let net = netOf (a .table .now) (a .stride) (a .strength .now) (a .d) in (
+      (λ q. apply-move-is net (stateOf (a .partition .now) (a .exits .now) (a .strengths .now) q) (a .u) (a .h)
+          (after-move-of .move-of .ensures (a .d) ∙ ap₂ (λ (x y : ModuleStats). movedFrom net (a .partition .now) (a .u) (a .h) x y)
+          (at-start .pre .1 .0) (at-start .pre .1 .1))
+          (after-lowest .lowest .ensures) (after-lowest2 .lowest2 .ensures) (after-store .store .ensures) (after-store2 .store2 .ensures)
+          (after-store3 .store3 .ensures) (after-store4 .store4 .ensures) (c .sum-q .ensures)),
+      firsts-move (a .partition .now) (a .first .now) _ (a .u) (a .h) (at-start .pre .0 .1) (at-start .pre .0 .2) (after-lowest .lowest .ensures)
+          (after-lowest2 .lowest2 .ensures) (after-renew-first .renew-first .ensures),
     )
 
 pub apply-move-spec : {M : Type 1} → statement M
@@ -127,10 +146,10 @@ apply-move-spec =
     cast-renew-first
     cast-renew-first-2
     renew-first-requires
-    put-requires
-    put-requires-2
-    put-requires-3
-    put-requires-4
+    store-requires
+    store-requires-2
+    store-requires-3
+    store-requires-4
     sum-q-requires
     same-length
     same-length-2

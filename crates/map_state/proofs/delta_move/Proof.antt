@@ -1,4 +1,4 @@
--- `map_state::delta_move` meets its contract. Assumes nothing.
+-- `map_state::delta_move` meets its contract.
 use Rattle.map_state.specs.MapState.{deltaFrom}
 use borrow.Author.Needs.{needs}
 use Rattle.map_state.proofs.delta_move.Statement.{statement}
@@ -12,7 +12,9 @@ module-pair-delta-l-requires c κs = search needs
 
 returns : tie.Need-returns
 unfolding deltaFrom
-returns c = rw (c .module-pair-delta-l .ensures, c .before .move-of .ensures (c .before .before .before .before .before .args .d))
+returns c =
+    let at-start = c .before .before .before .before .before in
+    rw (c .module-pair-delta-l .ensures, c .before .move-of .ensures (at-start .args .d))
 
 pub delta-move-spec : {M : Type 1} → statement M
 delta-move-spec = tie.close (tie.spec move-of-requires module-pair-delta-l-requires returns)

@@ -1,4 +1,4 @@
--- `map_state::find_stats` meets its contract. Assumes nothing.
+-- `map_state::find_stats` meets its contract.
 use native.Mathlib.Omega.{arith}
 use Rattle.map_state.proofs.Leaders.{stats-none}
 use borrow.Author.Needs.{needs}
@@ -16,8 +16,8 @@ returns c = search needs
 
 returns-2 : tie.Need-returns-2
 returns-2 c =
-    let c5 = c .before .before .before .before .before in
-    stats-none _ _ _ _ (c5 .pre .1) (c5 .pre .2) (omega (arith, c .before .lowest .ensures))
+    let at-start = c .before .before .before .before .before in
+    stats-none _ _ _ _ (at-start .pre .1) (at-start .pre .2) (omega (arith, c .before .lowest .ensures))
 
 pub find-stats-spec : {M : Type 1} → statement M
 find-stats-spec = tie.close (tie.spec lowest-requires stats-at-requires returns returns-2)

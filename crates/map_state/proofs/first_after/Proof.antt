@@ -1,6 +1,6 @@
--- `map_state::first_after` meets its contract. Assumes nothing.
+-- `map_state::first_after` meets its contract.
 use borrow.Author.Tests.{eq-eqb, ne-eqb}
-use Rattle.map_state.specs.Arrays.{firstAfter}
+use Rattle.map_state.specs.Steps.{firstAfter}
 use Rattle.map_state.proofs.first_after.Statement.{statement}
 use Rattle.map_state.proofs.first_after.Tie as tie
 

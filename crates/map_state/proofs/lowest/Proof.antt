@@ -1,4 +1,4 @@
--- `map_state::lowest` meets its contract. The loop: no node below v is in the group. Assumes nothing.
+-- `map_state::lowest` meets its contract. The loop: no node below v is in the group.
 use mathlib.Core.Path.{_≡_}
 use Prim.Native.Nat.{_-_, _+_}
 use native.Mathlib.Omega.{arith}
@@ -26,9 +26,10 @@ shared-slice-read-if1 c = search needs
 
 returns : tie.Need-returns Inv-loop μ-loop
 returns c =
-    let c4 = c .before .before .before .before in
-    let c4 = c4 in
-    omega (arith, lowest-hit (c4 .args .g) (c4 .args .partition .now) (c .before .before .before .loop .v) (c .before .before .loop-test .taken) (c .if1 .taken))
+    let at-test = c .before .before in
+    let at-loop = at-test .before in
+    let at-start = at-loop .before in
+    omega (arith, lowest-hit (at-start .args .g) (at-start .args .partition .now) (at-loop .loop .v) (at-test .loop-test .taken) (c .if1 .taken))
 
 add-v : tie.Need-add-v Inv-loop μ-loop
 add-v c = search needs
@@ -38,12 +39,15 @@ loop-less c = search needs
 
 loop-again : tie.Need-loop-again Inv-loop μ-loop
 loop-again c =
-    let c4 = c .before .before .before .before in
-    let c4 = c4 in
-    omega (arith, lowest-skip (c4 .args .g) (c4 .args .partition .now) (c .before .before .before .loop .v) (c .before .before .loop-test .taken) (c .if1 .left))
+    let at-test = c .before .before in
+    let at-loop = at-test .before in
+    let at-start = at-loop .before in
+    omega (arith, lowest-skip (at-start .args .g) (at-start .args .partition .now) (at-loop .loop .v) (at-test .loop-test .taken) (c .if1 .left))
 
 returns-2 : tie.Need-returns-2 Inv-loop μ-loop
-returns-2 c = omega (arith, lowest-end (c .before .before .args .g) (c .before .before .args .partition .now) (c .before .loop .v) (c .loop-test .left))
+returns-2 c =
+    let at-start = c .before .before in
+    omega (arith, lowest-end (at-start .args .g) (at-start .args .partition .now) (c .before .loop .v) (c .loop-test .left))
 
 pub lowest-spec : {M : Type 1} → statement M
 lowest-spec =

@@ -1,4 +1,4 @@
--- `map_state::members` meets its contract. The loop has counted the members below v. Assumes nothing.
+-- `map_state::members` meets its contract. The loop has counted the members below v.
 use mathlib.Core.Path.{_≡_}
 use mathlib.Core.Logic.{⊎-elim}
 use Prim.Native.Nat.{_-_, _+_, _≤_}
@@ -36,15 +36,21 @@ loop-less c = search needs
 
 loop-again : tie.Need-loop-again Inv-loop μ-loop
 loop-again c =
-    let c4 = c .before .before .before .before in
-    let c4 = c4 in
+    let at-test = c .before .before in
+    let at-loop = at-test .before in
+    let at-start = at-loop .before in
+    let args = at-start .args in
     ⊎-elim
-    (λ w. rw (w .1) (omega (arith, count-hit (c4 .args .g) (c4 .args .partition .now) (c .before .before .before .loop .v) (c .before .before .loop-test .taken) (w .0 .taken)), omega arith))
-    (λ w. rw (w .1) (omega (arith, count-skip (c4 .args .g) (c4 .args .partition .now) (c .before .before .before .loop .v) (c .before .before .loop-test .taken) (w .0 .left)), omega arith))
+    (λ w. rw (w .1)
+    (omega (arith, count-hit (args .g) (args .partition .now) (at-loop .loop .v) (at-test .loop-test .taken) (w .0 .taken)), omega arith))
+    (λ w. rw (w .1)
+    (omega (arith, count-skip (args .g) (args .partition .now) (at-loop .loop .v) (at-test .loop-test .taken) (w .0 .left)), omega arith))
     (c .if1 .came)
 
 returns : tie.Need-returns Inv-loop μ-loop
-returns c = omega (arith, count-end (c .before .before .args .g) (c .before .before .args .partition .now) (c .before .loop .v) (c .loop-test .left))
+returns c =
+    let at-start = c .before .before in
+    omega (arith, count-end (at-start .args .g) (at-start .args .partition .now) (c .before .loop .v) (c .loop-test .left))
 
 pub members-spec : {M : Type 1} → statement M
 members-spec =

@@ -1,4 +1,4 @@
--- `map_state::module_pair_delta_l` meets its contract. Assumes nothing.
+-- `map_state::module_pair_delta_l` meets its contract.
 use Rattle.map_state.specs.MapState.{modulePairDelta}
 use borrow.Author.Needs.{needs}
 use Rattle.map_state.proofs.module_pair_delta_l.Statement.{statement}
@@ -25,10 +25,18 @@ module-terms-requires-4 c κs = search needs
 returns : tie.Need-returns
 unfolding modulePairDelta
 returns c =
-    let c4 = c .before .before .before .before in
-    let c5 = c4 .before in
-    let c6 = c5 .before in
-    rw (c .module-terms4 .ensures, c .before .module-terms3 .ensures, c .before .before .plogp2 .ensures, c4 .module-terms2 .ensures, c5 .module-terms .ensures, c6 .plogp .ensures)
+    let after-plogp2 = c .before .before in
+    let after-module-terms2 = after-plogp2 .before .before in
+    let after-module-terms = after-module-terms2 .before in
+    let after-plogp = after-module-terms .before in
+    rw (
+      c .module-terms4 .ensures,
+      c .before .module-terms3 .ensures,
+      after-plogp2 .plogp2 .ensures,
+      after-module-terms2 .module-terms2 .ensures,
+      after-module-terms .module-terms .ensures,
+      after-plogp .plogp .ensures,
+    )
 
 pub module-pair-delta-l-spec : {M : Type 1} → statement M
 module-pair-delta-l-spec =

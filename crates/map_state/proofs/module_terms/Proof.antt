@@ -1,4 +1,4 @@
--- `map_state::module_terms` meets its contract. Assumes nothing.
+-- `map_state::module_terms` meets its contract.
 use borrow.Author.Tests.{eq-eqb, ne-eqb}
 use Rattle.map_state.specs.MapState.{moduleTerms}
 use borrow.Author.Needs.{needs}
@@ -17,7 +17,9 @@ plogp-requires-2 c κs = search needs
 
 returns-2 : tie.Need-returns-2
 unfolding moduleTerms
-returns-2 c = rw (ne-eqb _ _ (c .before .before .before .before .if1 .left), c .before .plogp .ensures, c .plogp2 .ensures)
+returns-2 c =
+    let at-if1 = c .before .before .before .before in
+    rw (ne-eqb _ _ (at-if1 .if1 .left), c .before .plogp .ensures, c .plogp2 .ensures)
 
 pub module-terms-spec : {M : Type 1} → statement M
 module-terms-spec = tie.close (tie.spec returns plogp-requires plogp-requires-2 returns-2)

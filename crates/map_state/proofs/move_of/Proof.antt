@@ -1,4 +1,4 @@
--- `map_state::move_of` meets its contract. Assumes nothing.
+-- `map_state::move_of` meets its contract.
 use native.Mathlib.Nat.{add-sub-cancel-left}
 use Rattle.map_state.specs.MapState.{movedFrom}
 use Rattle.map_state.specs.Network.{row}
@@ -45,9 +45,9 @@ after-move-requires c κs = search needs
 returns : tie.Need-returns
 unfolding movedFrom row
 returns c =
-    let c8 = c .before .before .before .before .before .before .before .before in
-    let c8 = c8 in
-    λ d. rw (c .after-move .ensures, c .before .before .link-weights .ensures, add-sub-cancel-left, c8 .pre .0 .nodes)
+    let after-link-weights = c .before .before in
+    let at-start = after-link-weights .before .before .before .before .before .before in
+    λ d. rw (c .after-move .ensures, after-link-weights .link-weights .ensures, add-sub-cancel-left, at-start .pre .0 .nodes)
 
 pub move-of-spec : {M : Type 1} → statement M
 move-of-spec =

@@ -1,4 +1,4 @@
--- `map_state::own_stats` meets its contract. Assumes nothing.
+-- `map_state::own_stats` meets its contract.
 use mathlib.Core.Path.{_≡_, _∙_}
 use native.Mathlib.Omega.{arith}
 use lib.ListN.{getD}
@@ -25,11 +25,12 @@ shared-slice-read-stats-at c = search needs
 
 stats-at-requires : tie.Need-stats-at-requires
 stats-at-requires c κs =
-    let c7 = c .before .before .before .before .before .before .before in
-    let c7 = c7 in
-    let a = c7 .args in
-    let e : c .before .wide .result ≡ lowest (getD (a .partition .now) (a .v) 0) (a .partition .now) = c .before .wide .ensures ∙ firsts-of (a .partition .now) (a .first .now) (c7 .pre .5) (a .v) (c7 .pre .4) in
-    (c7 .pre .0, c7 .pre .2, c7 .pre .3, omega (arith, lowest-of (a .partition .now) (a .v) (c7 .pre .4)), e)
+    let after-wide = c .before in
+    let at-start = after-wide .before .before .before .before .before .before in
+    let a = at-start .args in
+    let e : after-wide .wide .result ≡ lowest (getD (a .partition .now) (a .v) 0) (a .partition .now) = after-wide .wide .ensures ∙ firsts-of
+    (a .partition .now) (a .first .now) (at-start .pre .3) (a .v) (at-start .pre .2) in
+    (at-start .pre .0, omega (arith, lowest-of (a .partition .now) (a .v) (at-start .pre .2)), e)
 
 returns : tie.Need-returns
 returns c = search needs

@@ -1,22 +1,26 @@
--- `map_state::renew_first` meets its contract. The loop has given the nodes below v their lowest members, and the others keep theirs. Assumes nothing.
+-- `map_state::renew_first` meets its contract. The loop has given the nodes below v their lowest members, and the others keep theirs.
 use mathlib.Core.Path.{_≡_, refl, _∙_, ap}
 use Prim.Native.Nat.{ℕ, _-_, _≤_, _<_}
 use native.Mathlib.Omega.{arith}
 use lib.ListN.{length, getD, length-set}
-use Rattle.map_state.specs.Arrays.{firstAfter}
-use Rattle.rng.proofs.Stores.{stored-below, stored-above}
+use Rattle.map_state.specs.Steps.{firstAfter}
+use Rattle.lists.proofs.Stores.{stored-below, stored-above}
 use borrow.Author.Needs.{needs}
 use Rattle.map_state.proofs.renew_first.Statement.{statement}
 use Rattle.map_state.proofs.renew_first.Tie as tie
 
 abbrev Inv-loop : tie.InvT-loop
-Inv-loop part first₀ g a h b v₀ first v = ((k : ℕ) → k < v → getD first k 0 ≡ firstAfter (getD part k 0) g a h b (getD first₀ k 0)) × ((k : ℕ) → v ≤ k → getD first k 0 ≡ getD first₀ k 0) × (length first ≡ length part)
+Inv-loop part first₀ g a h b v₀ first v =
+    ((k : ℕ) → k < v → getD first k 0 ≡ firstAfter (getD part k 0) g a h b (getD first₀ k 0)) × ((k : ℕ) → v ≤ k → getD first k 0 ≡ getD first₀ k 0)
+    × (length first ≡ length part)
 
 abbrev μ-loop : tie.MeasureT-loop
 μ-loop part first₀ g a h b v₀ first v = length part - v
 
 loop-holds : tie.Need-loop-holds Inv-loop μ-loop
-loop-holds c = ((λ k p. omega arith), (λ k p. refl), c .before .before .pre)
+loop-holds c =
+    let at-start = c .before .before in
+    ((λ k p. omega arith), (λ k p. refl), at-start .pre)
 
 mul-first-after : tie.Need-mul-first-after Inv-loop μ-loop
 mul-first-after c = search needs
@@ -47,12 +51,14 @@ loop-less c = search needs
 
 loop-again : tie.Need-loop-again Inv-loop μ-loop
 loop-again c =
-    let c4 = c .before .before .before .before in
-    let c7 = c4 .before .before .before in
-    let l = c4 .loop in
-    let a = c7 .args in (
-      stored-below _ (l .first) (l .v) (c .first-after .result) (omega arith) (λ k. firstAfter (getD (a .partition .now) k 0) (a .g) (a .a) (a .h) (a .b) (getD (a .first .now) k 0)) (l .inv .0)
-          (c .first-after .ensures ∙ ap (λ (z : ℕ). firstAfter (getD (a .partition .now) (l .v) 0) (a .g) (a .a) (a .h) (a .b) z) (l .inv .1 (l .v) (omega arith))),
+    let at-loop = c .before .before .before .before in
+    let at-start = at-loop .before .before .before in
+    let l = at-loop .loop in
+    let a = at-start .args in (
+      stored-below _ (l .first) (l .v) (c .first-after .result) (omega arith)
+          (λ k. firstAfter (getD (a .partition .now) k 0) (a .g) (a .a) (a .h) (a .b) (getD (a .first .now) k 0)) (l .inv .0)
+          (c .first-after .ensures ∙ ap (λ (z : ℕ). firstAfter (getD (a .partition .now) (l .v) 0) (a .g) (a .a) (a .h) (a .b) z)
+          (l .inv .1 (l .v) (omega arith))),
       stored-above _ (l .first) (l .v) (c .first-after .result) (λ k. getD (a .first .now) k 0) (l .inv .1),
       simp length-set (omega arith),
     )

@@ -1,10 +1,10 @@
--- `map_state::stats_at` meets its contract. Assumes nothing.
+-- `map_state::stats_at` meets its contract.
 use mathlib.Core.Path.{sym}
 use lib.Ieee.{nan}
 use native.Mathlib.Omega.{arith}
 use Rattle.float.specs.Binary64.{zero64}
 use Rattle.map_state.specs.MapState.{statsAt}
-use Rattle.map_state.proofs.Leaders.{getD-any}
+use Rattle.lists.proofs.Maps.{getD-inside}
 use borrow.Author.Needs.{needs}
 use Rattle.map_state.proofs.stats_at.Statement.{statement}
 use Rattle.map_state.proofs.stats_at.Tie as tie
@@ -27,9 +27,14 @@ members-requires c κs = search needs
 returns : tie.Need-returns
 unfolding statsAt
 returns c =
-    let c6 = c .before .before .before .before .before .before in
-    let a = c6 .args in
-    rw (c .members .ensures, sym (c6 .pre .4), getD-any (a .exits .now) (a .slot) nan zero64 (omega arith), getD-any (a .strengths .now) (a .slot) nan zero64 (omega arith))
+    let at-start = c .before .before .before .before .before .before in
+    let a = at-start .args in
+    rw (
+      c .members .ensures,
+      sym (at-start .pre .2),
+      getD-inside (a .exits .now) (a .slot) nan zero64 (omega arith),
+      getD-inside (a .strengths .now) (a .slot) nan zero64 (omega arith),
+    )
 
 pub stats-at-spec : {M : Type 1} → statement M
 stats-at-spec =

@@ -1,4 +1,4 @@
--- `map_state::sum_q` meets its contract. The loop: the groups whose lowest member is v or higher, added to the sum so far, give Q. Assumes nothing.
+-- `map_state::sum_q` meets its contract. The loop: the groups whose lowest member is v or higher, added to the sum so far, give Q.
 use mathlib.Core.Path.{_≡_, _∙_, ap}
 use mathlib.Core.Bool.{cond}
 use Prim.Native.Nat.{ℕ, _-_}
@@ -49,13 +49,16 @@ loop-less c = search needs
 
 loop-again : tie.Need-loop-again Inv-loop μ-loop
 loop-again c =
-    let c4 = c .before .before .before .before in
-    let c5 = c4 .before in
-    let c9 = c5 .before .before .before .before in
-    let a = c9 .args in
-    let l = c5 .loop in
-    q-on (a .d) (a .partition .now) (a .first .now) (a .exits .now) (l .a) _ (l .v) (c9 .pre .2) (c4 .loop-test .taken)
-    (c .add-if .ensures ∙ ap (λ (z : ℕ). cond (eqb z (l .v)) (add64 (l .a) (div64 (getD (a .exits .now) (l .v) nan) (a .d))) (l .a)) (c .before .before .wide .ensures)) ∙ l .inv
+    let after-wide = c .before .before in
+    let at-test = after-wide .before .before in
+    let at-loop = at-test .before in
+    let at-start = at-loop .before .before .before .before in
+    let a = at-start .args in
+    let l = at-loop .loop in
+    q-on (a .d) (a .partition .now) (a .first .now) (a .exits .now) (l .a) _ (l .v) (at-start .pre .2) (at-test .loop-test .taken)
+    (c .add-if .ensures ∙ ap (λ (z : ℕ). cond (eqb z (l .v)) (add64 (l .a) (div64 (getD (a .exits .now) (l .v) nan) (a .d))) (l .a))
+    (after-wide .wide .ensures))
+    ∙ l .inv
 
 returns : tie.Need-returns Inv-loop μ-loop
 returns c = q-end _ _ _ _ _ (c .loop-test .left) ∙ c .before .loop .inv

@@ -1,4 +1,4 @@
--- `map_state::sum_strengths` meets its contract. The loop has written the strengths of the nodes below u. Assumes nothing.
+-- `map_state::sum_strengths` meets its contract. The loop has written the strengths of the nodes below u.
 use mathlib.Core.Path.{_≡_, refl, _∙_, ap}
 use Prim.Native.Nat.{ℕ, _-_, _*_, _<_}
 use native.Mathlib.Nat.{add-sub-cancel-left}
@@ -8,13 +8,15 @@ use lib.Ieee.{nan}
 use Rattle.float.specs.Binary64.{zero64}
 use Rattle.map_state.specs.Network.{addWeights, rowAt}
 use Rattle.map_state.proofs.Rows.{row-inside, is-strengths}
-use Rattle.rng.proofs.Stores.{stored-below}
+use Rattle.lists.proofs.Stores.{stored-below}
 use borrow.Author.Needs.{needs}
 use Rattle.map_state.proofs.sum_strengths.Statement.{statement}
 use Rattle.map_state.proofs.sum_strengths.Tie as tie
 
 abbrev Inv-loop : tie.InvT-loop
-Inv-loop table stride strength₀ n u₀ strength u = ((k : ℕ) → k < u → getD strength k nan ≡ addWeights zero64 (rowAt table stride (length strength₀) k)) × (length strength ≡ length strength₀) × (n ≡ length strength₀)
+Inv-loop table stride strength₀ n u₀ strength u =
+    ((k : ℕ) → k < u → getD strength k nan ≡ addWeights zero64 (rowAt table stride (length strength₀) k)) × (length strength ≡ length strength₀) ×
+    (n ≡ length strength₀)
 
 abbrev μ-loop : tie.MeasureT-loop
 μ-loop table stride strength₀ n u₀ strength u = n - u
@@ -23,13 +25,19 @@ loop-holds : tie.Need-loop-holds Inv-loop μ-loop
 loop-holds c = ((λ k h. absurd (omega arith)), refl, refl)
 
 mul-a : tie.Need-mul-a Inv-loop μ-loop
-mul-a c = omega (arith, row-inside _ _ _ (c .before .loop .u) (c .before .before .before .before .pre) (omega arith))
+mul-a c =
+    let at-start = c .before .before .before .before in
+    omega (arith, row-inside _ _ _ (c .before .loop .u) (at-start .pre) (omega arith))
 
 add-e : tie.Need-add-e Inv-loop μ-loop
-add-e c = omega (arith, row-inside _ _ _ (c .before .loop .u) (c .before .before .before .before .pre) (omega arith))
+add-e c =
+    let at-start = c .before .before .before .before in
+    omega (arith, row-inside _ _ _ (c .before .loop .u) (at-start .pre) (omega arith))
 
 mul-add-weights : tie.Need-mul-add-weights Inv-loop μ-loop
-mul-add-weights c = omega (arith, row-inside _ _ _ (c .before .loop .u) (c .before .before .before .before .pre) (omega arith))
+mul-add-weights c =
+    let at-start = c .before .before .before .before in
+    omega (arith, row-inside _ _ _ (c .before .loop .u) (at-start .pre) (omega arith))
 
 sub-add-weights : tie.Need-sub-add-weights Inv-loop μ-loop
 sub-add-weights c = search needs
@@ -38,7 +46,9 @@ part-add-weights-start : tie.Need-part-add-weights-start Inv-loop μ-loop
 part-add-weights-start c = search needs
 
 part-add-weights-end : tie.Need-part-add-weights-end Inv-loop μ-loop
-part-add-weights-end c = omega (arith, row-inside _ _ _ (c .before .loop .u) (c .before .before .before .before .pre) (omega arith))
+part-add-weights-end c =
+    let at-start = c .before .before .before .before in
+    omega (arith, row-inside _ _ _ (c .before .loop .u) (at-start .pre) (omega arith))
 
 add-weights-requires : tie.Need-add-weights-requires Inv-loop μ-loop
 add-weights-requires c κs = search needs
@@ -57,12 +67,14 @@ loop-less c = search needs
 
 loop-again : tie.Need-loop-again Inv-loop μ-loop
 loop-again c =
-    let c6 = c .before .before .before .before .before .before in
-    let c6 = c6 in
-    let a = c6 .args in
-    let l = c .before .before .before .loop in (
-      stored-below _ (l .strength) (l .u) (c .add-weights .result) (omega arith) (λ k. addWeights zero64 (rowAt (a .table .now) (a .stride) (length (a .strength .now)) k)) (l .inv .0)
-          (c .add-weights .ensures ∙ ap (λ (z : ℕ). addWeights zero64 (take z (drop (l .u * a .stride) (a .table .now)))) (add-sub-cancel-left (l .u * a .stride) _)),
+    let at-loop = c .before .before .before in
+    let at-start = at-loop .before .before .before in
+    let a = at-start .args in
+    let l = at-loop .loop in (
+      stored-below _ (l .strength) (l .u) (c .add-weights .result) (omega arith)
+          (λ k. addWeights zero64 (rowAt (a .table .now) (a .stride) (length (a .strength .now)) k)) (l .inv .0)
+          (c .add-weights .ensures ∙ ap (λ (z : ℕ). addWeights zero64 (take z (drop (l .u * a .stride) (a .table .now))))
+          (add-sub-cancel-left (l .u * a .stride) _)),
       simp length-set (omega arith),
       l .inv .2,
     )
@@ -71,7 +83,9 @@ same-length : tie.Need-same-length Inv-loop μ-loop
 same-length c = c .before .loop .inv .1
 
 returns : tie.Need-returns Inv-loop μ-loop
-returns c = is-strengths _ _ _ _ (c .before .loop .inv .1) (λ k h. c .before .loop .inv .0 k (omega arith))
+returns c =
+    let at-loop = c .before in
+    is-strengths _ _ _ _ (at-loop .loop .inv .1) (λ k h. at-loop .loop .inv .0 k (omega arith))
 
 pub sum-strengths-spec : {M : Type 1} → statement M
 sum-strengths-spec =

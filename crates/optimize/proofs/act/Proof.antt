@@ -1,6 +1,6 @@
--- `optimize::act` meets its contract. Assumes nothing.
-use Rattle.map_state.specs.Arrays.{netOf}
-use Rattle.optimize.specs.Rounds.{passOf}
+-- `optimize::act` meets its contract.
+use Rattle.map_state.specs.Steps.{netOf}
+use Rattle.optimize.specs.Steps.{passOf}
 use Rattle.optimize.proofs.Passes.{act-stay, act-move}
 use borrow.Author.Needs.{needs}
 use Rattle.optimize.proofs.act.Statement.{statement}
@@ -23,10 +23,13 @@ apply-move-requires c κs = search needs
 
 returns : tie.Need-returns
 returns c =
-    let c8 = c .before .before .before .before .before .before .before .before in
-    let c8 = c8 in
-    let a = c8 .args in
-    (act-stay (netOf (a .table .now) (a .stride) (a .strength .now) (a .d)) (passOf (a .partition .now) (a .exits .now) (a .strengths .now) (a .w)) (a .u) (c .enum-told .given .1), c8 .pre .2)
+    let at-start = c .before .before .before .before .before .before .before .before in
+    let a = at-start .args in
+    let net = netOf (a .table .now) (a .stride) (a .strength .now) (a .d) in (
+      act-stay net
+          (passOf (a .partition .now) (a .exits .now) (a .strengths .now) (a .w)) (a .u) (c .enum-told .given .1),
+      at-start .pre .2,
+    )
 
 same-length : tie.Need-same-length
 same-length c = search needs
@@ -42,12 +45,16 @@ same-length-4 c = search needs
 
 returns-2 : tie.Need-returns-2
 returns-2 c =
-    let c8 = c .before .before .before .before .before .before .before .before in
-    let c8 = c8 in
-    let c23 = c8 .before .before .before .before .before .before .before .before .before .before .before .before .before .before .before in
-    let c31 = c23 .before .before .before .before .before .before .before .before in
-    let a = c31 .args in
-    (act-move (netOf (a .table .now) (a .stride) (a .strength .now) (a .d)) (passOf (a .partition .now) (a .exits .now) (a .strengths .now) (a .w)) (a .u) _ _ (c23 .a .given .1) (c8 .apply-move .ensures .0 (a .w .q)), c8 .apply-move .ensures .1)
+    let after-apply-move = c .before .before .before .before .before .before .before .before in
+    let at-a = after-apply-move .before .before .before .before .before .before .before .before .before .before .before .before .before .before .before in
+    let at-start = at-a .before .before .before .before .before .before .before .before in
+    let a = at-start .args in
+    let net = netOf (a .table .now) (a .stride) (a .strength .now) (a .d) in (
+      act-move net
+          (passOf (a .partition .now) (a .exits .now) (a .strengths .now) (a .w)) (a .u) _ _ (at-a .a .given .1)
+          (after-apply-move .apply-move .ensures .0 (a .w .q)),
+      after-apply-move .apply-move .ensures .1,
+    )
 
 pub act-spec : {M : Type 1} → statement M
 act-spec =

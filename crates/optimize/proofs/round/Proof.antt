@@ -1,14 +1,14 @@
--- `optimize::round` meets its contract. Assumes nothing.
+-- `optimize::round` meets its contract.
 use mathlib.Core.Path.{_≡_, sym, _∙_, subst}
 use mathlib.Core.Bool.{false}
 use native.Mathlib.Omega.{arith}
 use Prim.Native.Nat.{ℕ}
 use lib.ListN.{length}
-use Rattle.map_state.specs.Arrays.{netOf}
-use Rattle.rng.specs.Rng.{Below}
-use Rattle.optimize.specs.Rounds.{passOf, runOf}
+use Rattle.map_state.specs.Steps.{netOf}
+use Rattle.rng.specs.Steps.{Below}
+use Rattle.optimize.specs.Steps.{passOf, runOf}
 use Rattle.rng.proofs.Visits.{drawn-below}
-use Rattle.optimize.proofs.Passes.{sized-kept}
+use Rattle.map_state.proofs.Rows.{sized-kept}
 use Rattle.optimize.proofs.Numbers.{at-most-more}
 use Rattle.optimize.proofs.Rounds.{round-is, moved-at-most, visits-is}
 use borrow.Author.Needs.{needs}
@@ -18,37 +18,46 @@ use Rattle.optimize.proofs.round.Tie as tie
 draw-order-requires : tie.Need-draw-order-requires
 draw-order-requires c κs = search needs
 
-move-pass-requires : tie.Need-move-pass-requires
-move-pass-requires c κs =
-    let c7 = c .before .before .before .before .before .before .before in
-    let c16 = c7 .before .before .before .before .before .before .before .before .before in
-    let a = c16 .args in (
-      c16 .pre .0,
-      c16 .pre .1,
-      rw (c16 .pre .2) at (drawn-below (a .t .rng) (length (a .order .now)) (c7 .draw-order .last .0) (c7 .draw-order .result) (c7 .draw-order .ensures)),
-      omega (arith, c7 .draw-order .kept .0, c16 .pre .2, c16 .pre .0 .few),
+pass-requires : tie.Need-pass-requires
+pass-requires c κs =
+    let after-draw-order = c .before .before .before .before .before .before .before in
+    let at-start = after-draw-order .before .before .before .before .before .before .before .before .before in
+    let a = at-start .args in (
+      at-start .pre .0 .0,
+      at-start .pre .0 .1,
+      rw (at-start .pre .0 .2) at
+          (drawn-below (a .t .rng) (length (a .order .now)) (after-draw-order .draw-order .last .0) (after-draw-order .draw-order .result)
+          (after-draw-order .draw-order .ensures)),
+      omega (arith, after-draw-order .draw-order .kept .0, at-start .pre .0 .2, at-start .pre .0 .0 .few),
+      at-most-more 800000 900000 _ (omega arith) (at-start .pre .0 .3),
     )
 
-isolation-pass-requires : tie.Need-isolation-pass-requires
-isolation-pass-requires c κs =
-    let c13 = c .before .before .before .before .before .before .before .before .before .before .before .before .before in
-    let c13 = c13 in
-    let c21 = c13 .before .before .before .before .before .before .before .before in
-    let c30 = c21 .before .before .before .before .before .before .before .before .before in
-    let a = c30 .args in
-    let e : length (c13 .move-pass .last .1 .1 .1 .1 .0) ≡ length (a .partition .now) = c13 .move-pass .kept .1 .1 .1 .1 .0 in (
-      sized-kept (a .table .now) (a .stride) (a .strength .now) (a .partition .now) (a .first .now) (a .exits .now) (a .strengths .now) (c13 .move-pass .last .1 .1 .1 .1 .0) (c13 .move-pass .last .1 .1 .1 .1 .1 .0) (c13 .move-pass .last .1 .1 .1 .1 .1 .1 .0) (c13 .move-pass .last .1 .1 .1 .1 .1 .1 .1 .0) (c30 .pre .0) (c13 .move-pass .kept .1 .1 .1 .1 .0) (c13 .move-pass .kept .1 .1 .1 .1 .1 .0) (c13 .move-pass .kept .1 .1 .1 .1 .1 .1 .0) (c13 .move-pass .kept .1 .1 .1 .1 .1 .1 .1 .0),
-      c13 .move-pass .ensures .1,
-      subst (λ (k : ℕ). Below k (c21 .draw-order .last .0)) (c30 .pre .2 ∙ sym e) (drawn-below (a .t .rng) (length (a .order .now)) (c21 .draw-order .last .0) (c21 .draw-order .result) (c21 .draw-order .ensures)),
-      omega (arith, c21 .draw-order .kept .0, c30 .pre .2, c30 .pre .0 .few),
-      at-most-more 800000 900000 _ (omega arith) (moved-at-most 800000 (netOf (a .table .now) (a .stride) (a .strength .now) (a .d)) (passOf (a .partition .now) (a .exits .now) (a .strengths .now) (record { q = a .t .q; moved = false })) _ (c13 .move-pass .ensures .0) (c30 .pre .3)),
+pass-requires-2 : tie.Need-pass-requires-2
+pass-requires-2 c κs =
+    let after-pass = c .before .before .before .before .before .before .before .before .before .before .before .before .before in
+    let after-draw-order = after-pass .before .before .before .before .before .before .before .before in
+    let at-start = after-draw-order .before .before .before .before .before .before .before .before .before in
+    let a = at-start .args in
+    let net = netOf (a .table .now) (a .stride) (a .strength .now) (a .d) in
+    let e : length (after-pass .pass .last .1 .1 .1 .1 .0) ≡ length (a .partition .now) = after-pass .pass .kept .1 .1 .1 .1 .0 in (
+      sized-kept (at-start .pre .0 .0) (after-pass .pass .kept .1 .1 .1 .1 .0) (after-pass .pass .kept .1 .1 .1 .1 .1 .0)
+          (after-pass .pass .kept .1 .1 .1 .1 .1 .1 .0) (after-pass .pass .kept .1 .1 .1 .1 .1 .1 .1 .0),
+      after-pass .pass .ensures .1,
+      subst (λ (k : ℕ). Below k (after-draw-order .draw-order .last .0)) (at-start .pre .0 .2 ∙ sym e)
+          (drawn-below (a .t .rng) (length (a .order .now)) (after-draw-order .draw-order .last .0) (after-draw-order .draw-order .result)
+          (after-draw-order .draw-order .ensures)),
+      omega (arith, after-draw-order .draw-order .kept .0, at-start .pre .0 .2, at-start .pre .0 .0 .few),
+      at-most-more 800000 900000 _ (omega arith)
+          (moved-at-most 800000 net
+          (passOf (a .partition .now) (a .exits .now) (a .strengths .now) (record { q = a .t .q; moved = false })) _
+          (after-pass .pass .ensures .0) (at-start .pre .0 .3)),
     )
 
 add-t37 : tie.Need-add-t37
 add-t37 c =
-    let c40 = c .before .before .before .before .before .before .before .before .before .before .before .before .before .before .before .before .before .before .before .before .before .before .before .before .before .before .before .before .before .before .before .before .before .before .before .before .before .before .before .before in
-    let c40 = c40 in
-    omega (arith, c40 .pre .4)
+    let after-pass = c .before .before .before .before .before .before .before .before .before .before .before .before .before .before .before .before .before .before .before .before .before .before .before in
+    let at-start = after-pass .before .before .before .before .before .before .before .before .before .before .before .before .before .before .before .before .before in
+    omega (arith, at-start .pre .1)
 
 same-length : tie.Need-same-length
 same-length c = search needs
@@ -64,21 +73,24 @@ same-length-4 c = search needs
 
 same-length-5 : tie.Need-same-length-5
 same-length-5 c =
-    let c31 = c .before .before .before .before .before .before .before .before .before .before .before .before .before .before .before .before .before .before .before .before .before .before .before .before .before .before .before .before .before .before .before in
-    let c31 = c31 in
-    c31 .draw-order .kept .0
+    let after-draw-order = c .before .before .before .before .before .before .before .before .before .before .before .before .before .before .before .before .before .before .before .before .before .before .before .before .before .before .before .before .before .before .before in
+    after-draw-order .draw-order .kept .0
 
 returns : tie.Need-returns
 returns c =
-    let c9 = c .before .before .before .before .before .before .before .before .before in
-    let c9 = c9 in
-    let c23 = c9 .before .before .before .before .before .before .before .before .before .before .before .before .before .before in
-    let c31 = c23 .before .before .before .before .before .before .before .before in
-    let c40 = c31 .before .before .before .before .before .before .before .before .before in
-    let a = c40 .args in (
-      round-is (netOf (a .table .now) (a .stride) (a .strength .now) (a .d)) (runOf (a .partition .now) (a .exits .now) (a .strengths .now) (a .t)) (c40 .pre .2 ∙ sym (c40 .pre .0 .nodes)) (c31 .draw-order .ensures) (c23 .move-pass .ensures .0) (c9 .isolation-pass .ensures .0),
-      c9 .isolation-pass .ensures .1,
-      visits-is (netOf (a .table .now) (a .stride) (a .strength .now) (a .d)) (runOf (a .partition .now) (a .exits .now) (a .strengths .now) (a .t)) (c40 .pre .2 ∙ sym (c40 .pre .0 .nodes)) (c31 .draw-order .ensures),
+    let after-pass2 = c .before .before .before .before .before .before .before .before .before in
+    let after-pass = after-pass2 .before .before .before .before .before .before .before .before .before .before .before .before .before .before in
+    let after-draw-order = after-pass .before .before .before .before .before .before .before .before in
+    let at-start = after-draw-order .before .before .before .before .before .before .before .before .before in
+    let a = at-start .args in
+    let net = netOf (a .table .now) (a .stride) (a .strength .now) (a .d) in (
+      round-is net
+          (runOf (a .partition .now) (a .exits .now) (a .strengths .now) (a .t)) (at-start .pre .0 .2 ∙ sym (at-start .pre .0 .0 .nodes))
+          (after-draw-order .draw-order .ensures) (after-pass .pass .ensures .0) (after-pass2 .pass2 .ensures .0),
+      after-pass2 .pass2 .ensures .1,
+      visits-is net
+          (runOf (a .partition .now) (a .exits .now) (a .strengths .now) (a .t)) (at-start .pre .0 .2 ∙ sym (at-start .pre .0 .0 .nodes))
+          (after-draw-order .draw-order .ensures),
     )
 
 pub round-spec : {M : Type 1} → statement M
@@ -86,8 +98,8 @@ round-spec =
     tie.close
     (tie.spec
     draw-order-requires
-    move-pass-requires
-    isolation-pass-requires
+    pass-requires
+    pass-requires-2
     add-t37
     same-length
     same-length-2

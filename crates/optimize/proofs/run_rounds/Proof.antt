@@ -1,13 +1,14 @@
--- `optimize::run_rounds` meets its contract. The loop: the rounds that are left, from the state so far, give the whole run. Numbers grow by 512 a round. Assumes nothing.
+-- `optimize::run_rounds` meets its contract. The loop: the rounds that are left, from the state so far, give the whole run. Numbers grow by 512 a round.
 use mathlib.Core.Path.{_≡_, refl, sym, _∙_}
 use mathlib.Core.Bool.{true}
 use borrow.Author.Tests.{not-true, not-false}
 use native.Mathlib.Omega.{arith}
 use Prim.Native.Nat.{_+_, _*_, _≤_}
 use lib.ListN.{length}
-use Rattle.map_state.specs.Arrays.{netOf, Firsts, Sized}
-use Rattle.optimize.specs.Rounds.{runOf, runRounds, lastVisitsFrom, AtMost}
-use Rattle.optimize.proofs.Passes.{sized-kept}
+use Rattle.map_state.specs.Steps.{netOf, Firsts, Sized}
+use Rattle.optimize.specs.Rounds.{runRounds}
+use Rattle.optimize.specs.Steps.{runOf, lastVisitsFrom, AtMost}
+use Rattle.map_state.proofs.Rows.{sized-kept}
 use Rattle.optimize.proofs.Numbers.{at-most-more}
 use Rattle.optimize.proofs.Rounds.{rounds-on, rounds-rest, rounds-end, run-at-most, run-counts, visits-on, visits-rest, visits-end}
 use Rattle.optimize.proofs.run_rounds.Statement.{statement}
@@ -32,79 +33,113 @@ abbrev μ-loop : tie.MeasureT-loop
 
 loop-holds : tie.Need-loop-holds Inv-loop μ-loop
 loop-holds c =
-    let c7 = c .before .before .before .before .before .before .before in
-    (refl, c7 .pre .0, c7 .pre .1, refl, refl, refl, refl, refl, omega (arith, c7 .pre .4), at-most-more 512 _ (c7 .args .partition .now) (omega arith) (c7 .pre .3), refl)
+    let at-start = c .before .before .before .before .before .before .before in (
+      refl,
+      at-start .pre .0 .0,
+      at-start .pre .0 .1,
+      refl,
+      refl,
+      refl,
+      refl,
+      refl,
+      omega (arith, at-start .pre .1),
+      at-most-more 512 _ (at-start .args .partition .now) (omega arith) (at-start .pre .0 .3),
+      refl,
+    )
 
 same-length : tie.Need-same-length Inv-loop μ-loop
-same-length c = c .before .before .loop .inv .3
+same-length c =
+    let at-loop = c .before .before in
+    at-loop .loop .inv .3
 
 same-length-2 : tie.Need-same-length-2 Inv-loop μ-loop
-same-length-2 c = c .before .before .loop .inv .4
+same-length-2 c =
+    let at-loop = c .before .before in
+    at-loop .loop .inv .4
 
 same-length-3 : tie.Need-same-length-3 Inv-loop μ-loop
-same-length-3 c = c .before .before .loop .inv .5
+same-length-3 c =
+    let at-loop = c .before .before in
+    at-loop .loop .inv .5
 
 same-length-4 : tie.Need-same-length-4 Inv-loop μ-loop
-same-length-4 c = c .before .before .loop .inv .6
+same-length-4 c =
+    let at-loop = c .before .before in
+    at-loop .loop .inv .6
 
 same-length-5 : tie.Need-same-length-5 Inv-loop μ-loop
-same-length-5 c = c .before .before .loop .inv .7
+same-length-5 c =
+    let at-loop = c .before .before in
+    at-loop .loop .inv .7
 
 returns : tie.Need-returns Inv-loop μ-loop
 returns c =
-    let c10 = c .before .before .before .before .before .before .before .before .before .before in
-    let c10 = c10 in
-    let a = c10 .args in
-    let l = c .before .before .loop in (
-      rounds-rest (netOf (a .table .now) (a .stride) (a .strength .now) (a .d)) (l .left) (l .more) (runOf (l .partition) (l .exits) (l .strengths) (l .t)) (c .before .loop-test .taken) (not-true (l .more) (c .if1 .taken)) ∙ l .inv .0,
+    let at-test = c .before in
+    let at-loop = at-test .before in
+    let at-start = at-loop .before .before .before .before .before .before .before .before in
+    let a = at-start .args in
+    let net = netOf (a .table .now) (a .stride) (a .strength .now) (a .d) in
+    let l = at-loop .loop in (
+      rounds-rest net (l .left) (l .more)
+          (runOf (l .partition) (l .exits) (l .strengths) (l .t)) (at-test .loop-test .taken) (not-true (l .more) (c .if1 .taken)) ∙ l .inv .0,
       l .inv .2,
-      visits-rest (netOf (a .table .now) (a .stride) (a .strength .now) (a .d)) (l .left) (l .more) (runOf (l .partition) (l .exits) (l .strengths) (l .t)) (l .order) (c .before .loop-test .taken) (not-true (l .more) (c .if1 .taken)) ∙ l .inv .10,
+      visits-rest net (l .left) (l .more)
+          (runOf (l .partition) (l .exits) (l .strengths) (l .t)) (l .order) (at-test .loop-test .taken) (not-true (l .more) (c .if1 .taken)) ∙
+          l .inv .10,
     )
 
 round-requires : tie.Need-round-requires Inv-loop μ-loop
 round-requires c κs =
-    let c7 = c .before .before .before .before .before .before .before in
-    let c15 = c7 .before .before .before .before .before .before .before .before in
-    let l = c7 .loop in
-    (l .inv .1, l .inv .2, l .inv .7 ∙ c15 .pre .2 ∙ sym (l .inv .3), at-most-more (512 + 512 * l .t .rounds) 800000 (l .partition) (omega (arith, l .inv .8)) (l .inv .9), omega (arith, l .inv .8))
+    let at-loop = c .before .before .before .before .before .before .before in
+    let at-start = at-loop .before .before .before .before .before .before .before .before in
+    let l = at-loop .loop in (
+      (
+        l .inv .1,
+        l .inv .2,
+        l .inv .7 ∙ at-start .pre .0 .2 ∙ sym (l .inv .3),
+        at-most-more (512 + 512 * l .t .rounds) 800000 (l .partition) (omega (arith, l .inv .8)) (l .inv .9),
+      ),
+      omega (arith, l .inv .8),
+    )
 
 sub-left : tie.Need-sub-left Inv-loop μ-loop
 sub-left c =
-    let c17 = c .before .before .before .before .before .before .before .before .before .before .before .before .before .before .before .before .before in
-    let c17 = c17 in
-    omega (arith, c17 .loop-test .taken)
+    let at-test = c .before .before .before .before .before .before .before .before .before .before .before .before .before .before .before .before .before in
+    omega (arith, at-test .loop-test .taken)
 
 loop-less : tie.Need-loop-less Inv-loop μ-loop
 loop-less c =
-    let c17 = c .before .before .before .before .before .before .before .before .before .before .before .before .before .before .before .before .before in
-    let c17 = c17 in
-    omega (arith, c17 .loop-test .taken)
+    let at-test = c .before .before .before .before .before .before .before .before .before .before .before .before .before .before .before .before .before in
+    omega (arith, at-test .loop-test .taken)
 
 loop-again : tie.Need-loop-again Inv-loop μ-loop
 loop-again c =
-    let c10 = c .before .before .before .before .before .before .before .before .before .before in
-    let c10 = c10 in
-    let c16 = c10 .before .before .before .before .before .before in
-    let c17 = c16 .before in
-    let c18 = c17 .before in
-    let c26 = c18 .before .before .before .before .before .before .before .before in
-    let a = c26 .args in
-    let l = c18 .loop in
-    let n = netOf (a .table .now) (a .stride) (a .strength .now) (a .d) in
+    let after-round = c .before .before .before .before .before .before .before .before .before .before in
+    let at-if1 = after-round .before .before .before .before .before .before in
+    let at-test = at-if1 .before in
+    let at-loop = at-test .before in
+    let at-start = at-loop .before .before .before .before .before .before .before .before in
+    let a = at-start .args in
+    let l = at-loop .loop in
+    let net = netOf (a .table .now) (a .stride) (a .strength .now) (a .d) in
     let r = runOf (l .partition) (l .exits) (l .strengths) (l .t) in
-    let k : c10 .round .result .rounds ≡ l .t .rounds + 1 = run-counts n r (c10 .round .ensures .0) in
-    let z : length (a .strength .now) ≤ 512 = omega (arith, c26 .pre .0 .nodes, c26 .pre .0 .few) in (
-      rounds-on n (l .left) (l .more) _ r (c17 .loop-test .taken) (not-false (l .more) (c16 .if1 .left)) (c10 .round .ensures .0) refl ∙ l .inv .0,
-      sized-kept (a .table .now) (a .stride) (a .strength .now) (l .partition) (l .first) (l .exits) (l .strengths) (c10 .round .last .1 .1 .1 .1 .0) (c10 .round .last .1 .1 .1 .1 .1 .0) (c10 .round .last .1 .1 .1 .1 .1 .1 .0) (c10 .round .last .1 .1 .1 .1 .1 .1 .1 .0) (l .inv .1) (c10 .round .kept .1 .1 .1 .1 .0) (c10 .round .kept .1 .1 .1 .1 .1 .0) (c10 .round .kept .1 .1 .1 .1 .1 .1 .0) (c10 .round .kept .1 .1 .1 .1 .1 .1 .1 .0),
-      c10 .round .ensures .1,
-      c10 .round .kept .1 .1 .1 .1 .0 ∙ l .inv .3,
-      c10 .round .kept .1 .1 .1 .1 .1 .0 ∙ l .inv .4,
-      c10 .round .kept .1 .1 .1 .1 .1 .1 .0 ∙ l .inv .5,
-      c10 .round .kept .1 .1 .1 .1 .1 .1 .1 .0 ∙ l .inv .6,
-      c10 .round .kept .1 .1 .1 .1 .1 .1 .1 .1 .0 ∙ l .inv .7,
-      omega (arith, l .inv .8, c17 .loop-test .taken),
-      at-most-more (512 + 512 * l .t .rounds + length (a .strength .now)) _ (c10 .round .last .1 .1 .1 .1 .0) (omega arith) (run-at-most (512 + 512 * l .t .rounds) n r (c10 .round .ensures .0) (l .inv .9)),
-      visits-on n (l .left) (l .more) _ r (l .order) (c17 .loop-test .taken) (not-false (l .more) (c16 .if1 .left)) (c10 .round .ensures .0) refl (c10 .round .ensures .2) ∙ l .inv .10,
+    let k : after-round .round .result .rounds ≡ l .t .rounds + 1 = run-counts net r (after-round .round .ensures .0) in
+    let z : length (a .strength .now) ≤ 512 = omega (arith, at-start .pre .0 .0 .nodes, at-start .pre .0 .0 .few) in (
+      rounds-on net (l .left) (l .more) _ r (at-test .loop-test .taken) (not-false (l .more) (at-if1 .if1 .left)) (after-round .round .ensures .0)
+          refl ∙ l .inv .0,
+      sized-kept (l .inv .1) (after-round .round .kept .1 .1 .1 .1 .0) (after-round .round .kept .1 .1 .1 .1 .1 .0)
+          (after-round .round .kept .1 .1 .1 .1 .1 .1 .0) (after-round .round .kept .1 .1 .1 .1 .1 .1 .1 .0),
+      after-round .round .ensures .1,
+      after-round .round .kept .1 .1 .1 .1 .0 ∙ l .inv .3,
+      after-round .round .kept .1 .1 .1 .1 .1 .0 ∙ l .inv .4,
+      after-round .round .kept .1 .1 .1 .1 .1 .1 .0 ∙ l .inv .5,
+      after-round .round .kept .1 .1 .1 .1 .1 .1 .1 .0 ∙ l .inv .6,
+      after-round .round .kept .1 .1 .1 .1 .1 .1 .1 .1 .0 ∙ l .inv .7,
+      omega (arith, l .inv .8, at-test .loop-test .taken),
+      at-most-more (512 + 512 * l .t .rounds + length (a .strength .now)) _ (after-round .round .last .1 .1 .1 .1 .0) (omega arith)
+          (run-at-most (512 + 512 * l .t .rounds) net r (after-round .round .ensures .0) (l .inv .9)),
+      visits-on net (l .left) (l .more) _ r (l .order) (at-test .loop-test .taken) (not-false (l .more) (at-if1 .if1 .left))
+          (after-round .round .ensures .0) refl (after-round .round .ensures .2) ∙ l .inv .10,
     )
 
 same-length-6 : tie.Need-same-length-6 Inv-loop μ-loop
@@ -124,13 +159,15 @@ same-length-10 c = c .before .loop .inv .7
 
 returns-2 : tie.Need-returns-2 Inv-loop μ-loop
 returns-2 c =
-    let c9 = c .before .before .before .before .before .before .before .before .before in
-    let c9 = c9 in
-    let a = c9 .args in
+    let at-start = c .before .before .before .before .before .before .before .before .before in
+    let a = at-start .args in
+    let net = netOf (a .table .now) (a .stride) (a .strength .now) (a .d) in
     let l = c .before .loop in (
-      rounds-end (netOf (a .table .now) (a .stride) (a .strength .now) (a .d)) (l .left) (l .more) (runOf (l .partition) (l .exits) (l .strengths) (l .t)) (c .loop-test .left) ∙ l .inv .0,
+      rounds-end net (l .left) (l .more)
+          (runOf (l .partition) (l .exits) (l .strengths) (l .t)) (c .loop-test .left) ∙ l .inv .0,
       l .inv .2,
-      visits-end (netOf (a .table .now) (a .stride) (a .strength .now) (a .d)) (l .left) (l .more) (runOf (l .partition) (l .exits) (l .strengths) (l .t)) (l .order) (c .loop-test .left) ∙ l .inv .10,
+      visits-end net (l .left) (l .more)
+          (runOf (l .partition) (l .exits) (l .strengths) (l .t)) (l .order) (c .loop-test .left) ∙ l .inv .10,
     )
 
 pub run-rounds-spec : {M : Type 1} → statement M

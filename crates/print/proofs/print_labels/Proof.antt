@@ -20,7 +20,10 @@ same-length c = search needs
 
 returns : tie.Need-returns
 unfolding labelsText labelNames
-returns c = writes _ _ _ _ (and-then _ _ _ _ _ (c .before .before .before .before .before .before .push-all .ensures) (c .before .before .put-lines .ensures))
+returns c =
+    let after-put-lines = c .before .before in
+    let after-push-all = after-put-lines .before .before .before .before in
+    writes _ _ _ _ (and-then _ _ _ _ _ (after-push-all .push-all .ensures) (after-put-lines .put-lines .ensures))
 
 pub print-labels-spec : {M : Type 1} → statement M
 print-labels-spec =

@@ -38,7 +38,20 @@ same-length c = search needs
 
 returns : tie.Need-returns
 unfolding refusalText refusedNames
-returns c = writes _ _ _ _ (and-then _ _ _ _ _ (c .before .before .before .before .before .before .before .before .before .before .before .before .before .before .before .before .before .before .before .before .push-all .ensures) (and-then _ _ _ _ _ (rw (c .before .before .before .before .before .before .before .before .before .before .before .before .before .before .before .before .number .ensures) at (c .before .before .before .before .before .before .before .before .before .before .before .before .before .before .before .put-number .ensures)) (and-push _ _ _ _ _ (c .before .before .before .before .before .before .before .before .before .before .before .push .ensures) (and-then _ _ _ _ _ (rw (c .before .before .before .before .before .before .before .trace .ensures) at (c .before .before .before .before .before .before .put-number2 .ensures)) (one _ _ _ (c .before .before .push2 .ensures))))))
+returns c =
+    let after-push2 = c .before .before in
+    let after-put-number2 = after-push2 .before .before .before .before in
+    let after-trace = after-put-number2 .before in
+    let after-push = after-trace .before .before .before .before in
+    let after-put-number = after-push .before .before .before .before in
+    let after-number = after-put-number .before in
+    let after-push-all = after-number .before .before .before .before in
+    writes _ _ _ _
+    (and-then _ _ _ _ _ (after-push-all .push-all .ensures)
+    (and-then _ _ _ _ _ (rw (after-number .number .ensures) at (after-put-number .put-number .ensures))
+    (and-push _ _ _ _ _ (after-push .push .ensures)
+    (and-then _ _ _ _ _ (rw (after-trace .trace .ensures) at (after-put-number2 .put-number2 .ensures))
+    (one _ _ _ (after-push2 .push2 .ensures))))))
 
 pub print-refusal-spec : {M : Type 1} → statement M
 print-refusal-spec =

@@ -14,8 +14,14 @@ refuse-requires c κs = search needs
 
 returns : tie.Need-returns
 returns c =
-    let a = c .before .before .before .before .before .before .before .before .args in
-    (refl, refl, λ fs w. promised-refused (a .model) fs (a .lens .now) (a .labels .now) (a .places) (a .columns .now) (a .marks .now) (a .floats .now) (a .words .now) (a .v) w _ (c .before .before .checked .given .1) _ (c .refuse .ensures))
+    let at-checked = c .before .before in
+    let at-start = at-checked .before .before .before .before .before .before in
+    let a = at-start .args in (
+      refl,
+      refl,
+      λ fs w. promised-refused (a .model) fs (a .lens .now) (a .labels .now) (a .places) (a .columns .now) (a .marks .now) (a .floats .now)
+          (a .words .now) (a .v) w _ (at-checked .checked .given .1) _ (c .refuse .ensures),
+    )
 
 enum-told : tie.Need-enum-told
 enum-told c = search needs
@@ -25,16 +31,28 @@ refuse-requires-2 c κs = search needs
 
 returns-2 : tie.Need-returns-2
 returns-2 c =
-    let a = c .before .before .before .before .before .before .before .before .args in
-    (refl, refl, λ fs w. never-short (a .model) fs (a .lens .now) (a .labels .now) (a .places) (a .columns .now) (a .marks .now) (a .floats .now) (a .words .now) (a .v) w (c .before .before .enum-told .given .1) (too-short _ _ (c .before .if1 .taken)))
+    let at-match = c .before .before in
+    let at-start = at-match .before .before .before .before .before .before in
+    let a = at-start .args in (
+      refl,
+      refl,
+      λ fs w. never-short (a .model) fs (a .lens .now) (a .labels .now) (a .places) (a .columns .now) (a .marks .now) (a .floats .now)
+          (a .words .now) (a .v) w (at-match .enum-told .given .1) (too-short _ _ (c .before .if1 .taken)),
+    )
 
 refuse-requires-3 : tie.Need-refuse-requires-3
 refuse-requires-3 c κs = search needs
 
 returns-3 : tie.Need-returns-3
 returns-3 c =
-    let a = c .before .before .before .before .before .before .before .before .before .args in
-    (refl, refl, λ fs w. never-few (a .model) fs (a .lens .now) (a .labels .now) (a .places) (a .columns .now) (a .marks .now) (a .floats .now) (a .words .now) (a .v) w (c .before .before .before .enum-told .given .1) (c .before .if2 .taken))
+    let at-match = c .before .before .before in
+    let at-start = at-match .before .before .before .before .before .before in
+    let a = at-start .args in (
+      refl,
+      refl,
+      λ fs w. never-few (a .model) fs (a .lens .now) (a .labels .now) (a .places) (a .columns .now) (a .marks .now) (a .floats .now)
+          (a .words .now) (a .v) w (at-match .enum-told .given .1) (c .before .if2 .taken),
+    )
 
 mul-y : tie.Need-mul-y
 mul-y c = search needs
@@ -104,9 +122,15 @@ same-length-5 c = search needs
 
 returns-4 : tie.Need-returns-4
 returns-4 c =
-    let d = c .before .before .before .before .before .before .before .before .before .before .before .before .before .before .before .before in
-    let a = d .before .before .before .before .before .before .args in
-    (refl, refl, λ fs w. promised-taken (a .model) fs (a .lens .now) (a .labels .now) (a .places) (a .columns .now) (a .marks .now) (a .floats .now) (a .words .now) (a .v) w (d .enum-told .given .1) _ _ _ _ _ refl (c .before .before .before .before .fit-predict-many .ensures))
+    let after-fit-predict-many = c .before .before .before .before in
+    let at-match = after-fit-predict-many .before .before .before .before .before .before .before .before .before .before .before .before in
+    let at-start = at-match .before .before .before .before .before .before in
+    let a = at-start .args in (
+      refl,
+      refl,
+      λ fs w. promised-taken (a .model) fs (a .lens .now) (a .labels .now) (a .places) (a .columns .now) (a .marks .now) (a .floats .now)
+          (a .words .now) (a .v) w (at-match .enum-told .given .1) _ _ _ _ _ refl (after-fit-predict-many .fit-predict-many .ensures),
+    )
 
 pub fit-taken-spec : {M : Type 1} → statement M
 fit-taken-spec =

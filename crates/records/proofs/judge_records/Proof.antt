@@ -50,7 +50,7 @@ use denote.Exit.{yes}
 use borrow.Author.Tests.{lt-ltb, le-ltb}
 use Rattle.records.specs.declared.FixRecord.{FixRecord}
 use Rattle.records.specs.declared.packed.Packed.{Packed}
-use Rattle.records.specs.Judge.{started, stepped, packed, unpacked, run as run-all}
+use Rattle.records.specs.StepsJudge.{started, stepped, packed, unpacked, run as run-all}
 use Rattle.records.specs.Steps.{noRecord}
 use Rattle.records.proofs.Packing.{after, after-none, after-more, after-all}
 use Rattle.records.proofs.FixRecord as T
@@ -139,24 +139,33 @@ module _ {M : Type 1} (𝓤 : URA M) (H : Heap 𝓤) (A : Atoms 𝓤) (W : Given
   abbrev Post : Val → SProp 𝓤
   Post = walkOf 𝓤 H A this.ended stayed (this.clauses 𝓤 H A mem run) .post bound
 
-  exits : (rr : Packed) (v : Val) → rr ≡ packed (run-all lsd (started lsd) fs) → ent 𝓤 (⋆ 𝓤 H A (‵ (flft κ q) ∷ ‵ (flft κd qd) ∷ ‵ Records ∷ ‵ Lens ∷ ‵ (PT.the-row .own rr (v ∷ [])) ∷ [])) (Post v)
+  exits : (rr : Packed) (v : Val) → rr ≡ packed (run-all lsd (started lsd) fs)
+      → ent 𝓤 (⋆ 𝓤 H A (‵ (flft κ q) ∷ ‵ (flft κd qd) ∷ ‵ Records ∷ ‵ Lens ∷ ‵ (PT.the-row .own rr (v ∷ [])) ∷ [])) (Post v)
   exits rr v e =
       qed W (‵ (flft κ q) ∷ ‵ (flft κd qd) ∷ ‵ Records ∷ ‵ Lens ∷ ‵ (PT.the-row .own rr (v ∷ [])) ∷ []) ∵
       suffices ! _ (ends-at 𝓤 H A this.ended stayed (this.clauses 𝓤 H A mem run) W bound v rr (tt, (tt, tt)) (tt, (tt, tt))) $ says ! e $
-      nothing ! $ move ! (2 ∷ 0 ∷ []) $ join ! $ move ! (1 ∷ 0 ∷ []) $ join ! $ frame ! $ nothing ! $ move ! (2 ∷ 0 ∷ []) $ fjoin ! $ move ! (1 ∷ 0 ∷ []) $ fjoin ! $ done !
+      nothing ! $ move ! (2 ∷ 0 ∷ []) $ join ! $ move ! (1 ∷ 0 ∷ []) $ join ! $ frame ! $ nothing ! $ move ! (2 ∷ 0 ∷ []) $ fjoin ! $
+      move ! (1 ∷ 0 ∷ []) $ fjoin ! $ done !
 
   -- What the two contracts are cited at.
   abbrev to-start : Start 𝓤 H A mem run .Ghost
   to-start = (((κd, tt), (qd, tt), tt, (yd, tt), (sd ∷ [], tt)), tt)
 
-  goes-start : ent 𝓤 (⋆ 𝓤 H A ((‵ (flft κd qd) ⊛ ‵ ftrue) ∷ ‵ (owns (ShrSlice (named 0) κd u32 ∷ []) (yd, tt) (sd ∷ [], tt)) ∷ [])) (Start 𝓤 H A mem run .pre to-start)
-  goes-start = qed W ((‵ (flft κd qd) ⊛ ‵ ftrue) ∷ ‵ (owns (ShrSlice (named 0) κd u32 ∷ []) (yd, tt) (sd ∷ [], tt)) ∷ []) ∵ join ! $ frame ! $ done !
+  abbrev Lent-start : List (Item 𝓤)
+  Lent-start = (‵ (flft κd qd) ⊛ ‵ ftrue) ∷ ‵ (owns (ShrSlice (named 0) κd u32 ∷ []) (to-start .0 .3) (to-start .0 .4)) ∷ []
+
+  goes-start : ent 𝓤 (⋆ 𝓤 H A Lent-start) (Start 𝓤 H A mem run .pre to-start)
+  goes-start = qed W Lent-start ∵ join ! $ frame ! $ done !
 
   abbrev to-step : Packed → Val → FixRecord → Step 𝓤 H A mem run .Ghost
   to-step p v f = (((κd, tt), (qd, tt), tt, (p, (f, (yd, tt))), (v ∷ [], (vals f, (sd ∷ [], tt)))), tt)
 
-  goes-step : (p : Packed) (v : Val) (f : FixRecord) → ent 𝓤 (⋆ 𝓤 H A ((‵ (flft κd qd) ⊛ ‵ ftrue) ∷ ‵ (owns (PT.the-row ∷ T.the-row ∷ ShrSlice (named 0) κd u32 ∷ []) (p, (f, (yd, tt))) (v ∷ [], (vals f, (sd ∷ [], tt)))) ∷ [])) (Step 𝓤 H A mem run .pre (to-step p v f))
-  goes-step p v f = qed W ((‵ (flft κd qd) ⊛ ‵ ftrue) ∷ ‵ (owns (PT.the-row ∷ T.the-row ∷ ShrSlice (named 0) κd u32 ∷ []) (p, (f, (yd, tt))) (v ∷ [], (vals f, (sd ∷ [], tt)))) ∷ []) ∵ join ! $ frame ! $ done !
+  abbrev Lent-step : Packed → Val → FixRecord → List (Item 𝓤)
+  Lent-step p v f =
+      (‵ (flft κd qd) ⊛ ‵ ftrue) ∷ ‵ (owns (PT.the-row ∷ T.the-row ∷ ShrSlice (named 0) κd u32 ∷ []) (to-step p v f .0 .3) (to-step p v f .0 .4)) ∷ []
+
+  goes-step : (p : Packed) (v : Val) (f : FixRecord) → ent 𝓤 (⋆ 𝓤 H A (Lent-step p v f)) (Step 𝓤 H A mem run .pre (to-step p v f))
+  goes-step p v f = qed W (Lent-step p v f) ∵ join ! $ frame ! $ done !
 
   abbrev f : ℕ → FixRecord
   f i = getD fs i noRecord
@@ -176,7 +185,8 @@ module _ {M : Type 1} (𝓤 : URA M) (H : Heap 𝓤) (A : Atoms 𝓤) (W : Given
   Nearer-wf : WellFounded Nearer
   Nearer-wf = InvImage·wf (λ (t : Turn). n - t .at) (Nat·lt-wfRel .wf)
 
-  module _ (𝓣 : Tables 𝓤 H) (known-start : Triple 𝓤 (𝓣 .C #start) (Start 𝓤 H A mem run)) (known-step : Triple 𝓤 (𝓣 .C #step) (Step 𝓤 H A mem run)) (g : Room T.the-row n) (gd : Room u32 (length lsd)) (l₀ l₁ l₂ l₃ l₄ l₅ l₆ l₇ l₈ l₉ : ℕ) where
+  module _ (𝓣 : Tables 𝓤 H) (known-start : Triple 𝓤 (𝓣 .C #start) (Start 𝓤 H A mem run)) (known-step : Triple 𝓤 (𝓣 .C #step) (Step 𝓤 H A mem run))
+      (g : Room T.the-row n) (gd : Room u32 (length lsd)) (l₀ l₁ l₂ l₃ l₄ l₅ l₆ l₇ l₈ l₉ : ℕ) where
     abbrev C : Calls 𝓤 H
     C = 𝓣 .C
 
@@ -184,7 +194,9 @@ module _ {M : Type 1} (𝓤 : URA M) (H : Heap 𝓤) (A : Atoms 𝓤) (W : Given
     Λ = 𝓣 .Λ
 
     abbrev En : Env 𝓤 H
-    En = (packedTy, l₀) ∷ (fixesTy, l₁) ∷ (lensTy, l₂) ∷ (word, l₃) ∷ (packedTy, l₄) ∷ (word, l₅) ∷ (tyBool, l₆) ∷ (word, l₇) ∷ (tyPtr, l₈) ∷ (fixTy, l₉) ∷ []
+    En =
+        (packedTy, l₀) ∷ (fixesTy, l₁) ∷ (lensTy, l₂) ∷ (word, l₃) ∷ (packedTy, l₄) ∷ (word, l₅) ∷ (tyBool, l₆) ∷ (word, l₇) ∷ (tyPtr, l₈)
+        ∷ (fixTy, l₉) ∷ []
 
     -- At a turn: the tokens, the records, the trace lengths, and the locals, the last first.
     abbrev At : Turn → List (Item 𝓤)
@@ -202,37 +214,64 @@ module _ {M : Type 1} (𝓤 : URA M) (H : Heap 𝓤) (A : Atoms 𝓤) (W : Given
 
     -- How a turn ends: nearer to n, or the loop is left and the rest of the body runs.
     abbrev Turned : Turn → Out → SProp 𝓤
-    Turned t = afterTurn 𝓤 H (Below 𝓤 H A Nearer At t) (afterBlock 𝓤 H (afterSeq 𝓤 H (Wp 𝓤 H C Λ En mir.t-5 (atReturn 𝓤 H En Post)) (atReturn 𝓤 H En Post)))
+    Turned t =
+        afterTurn 𝓤 H (Below 𝓤 H A Nearer At t) (afterBlock 𝓤 H (afterSeq 𝓤 H (Wp 𝓤 H C Λ En mir.t-5 (atReturn 𝓤 H En Post)) (atReturn 𝓤 H En Post)))
 
     -- A turn that takes one record.
     more : (t : Turn) → t .at < n → Sq W (At t) (runs C Λ En mir.turn-1 (anyQ (Turned t)))
     unfolding afterTurn
     more t less =
-        assigns ! (bin ! (load ! (from ! (stop !)) (look ! 13 refl)) (load ! (from ! (stop !)) (look ! 17 refl)) tt) (from ! (stop !)) (init ! 11 refl (tt, tt)) $
-        rewrite ! 11 (λ (b : Bool). ‵ (fat fullShare tyBool l₆ 0 (vbool b))) (lt-ltb (t .at) n less) refl $ stays ! (load ! (from ! (stop !)) (look ! 11 refl)) $
-        assigns ! (bin ! (load ! (from ! (stop !)) (look ! 13 refl)) (lit ! tt) (record { fits = bytes })) (from ! (stop !)) (init ! 9 refl (tt, record { fits = bytes })) $
-        assigns ! (bin ! (load ! (from ! (fld ! refl (stop !))) (look-in ! 21 (sub ! 0 refl (whole !)))) (load ! (from ! (stop !)) (look ! 9 refl)) tt) (from ! (stop !)) (init ! 7 refl (tt, tt)) $
+        assigns ! (bin ! (load ! (from ! (stop !)) (look ! 13 refl)) (load ! (from ! (stop !)) (look ! 17 refl)) tt) (from ! (stop !))
+        (init ! 11 refl (tt, tt)) $
+        rewrite ! 11 (λ (b : Bool). ‵ (fat fullShare tyBool l₆ 0 (vbool b))) (lt-ltb (t .at) n less) refl $
+        stays ! (load ! (from ! (stop !)) (look ! 11 refl)) $
+        assigns ! (bin ! (load ! (from ! (stop !)) (look ! 13 refl)) (lit ! tt) (record { fits = bytes })) (from ! (stop !))
+        (init ! 9 refl (tt, record { fits = bytes })) $
+        assigns ! (bin ! (load ! (from ! (fld ! refl (stop !))) (look-in ! 21 (sub ! 0 refl (whole !)))) (load ! (from ! (stop !)) (look ! 9 refl))
+        tt) (from ! (stop !)) (init ! 7 refl (tt, tt)) $
         rewrite ! 7 (λ (p : ℕ). ‵ (fat fullShare tyPtr l₈ 0 (vptr b p))) (sym (place-is 32 o (t .at))) refl $
         -- The record is copied out of the slice.
-        move ! (2 ∷ 0 ∷ []) $ looks-slice ! tt T.the-row (Is T.the-row) (shows 𝓤 H A T.the-row) vals (LL.tells T.the-type T′.the-laws) (LL.copy T.the-type T′.the-copy 𝓤 H A W) fs b o (λ q′.
+        move ! (2 ∷ 0 ∷ []) $
+        looks-slice ! tt T.the-row (Is T.the-row) (shows 𝓤 H A T.the-row) vals (LL.tells T.the-type T′.the-laws) (LL.copy T.the-type T′.the-copy 𝓤 H A
+        W) fs b o (λ q′.
         elem-out ! T.the-row (Is T.the-row) (shows 𝓤 H A T.the-row) vals (LL.tells T.the-type T′.the-laws) q′ fs (t .at) noRecord b o less (λ p.
-        assigns ! (of-opd ! (load ! (from ! (hop ! (look ! 10 refl) (stop !))) (look-raw ! 0 refl))) (from ! (stop !)) (init ! 8 refl (LL.lawful T.the-type T′.the-laws 𝓤 H A W .typed (f (t .at)) (vals (f (t .at))) p .0)) $
+        assigns ! (of-opd ! (load ! (from ! (hop ! (look ! 10 refl) (stop !))) (look-raw ! 0 refl))) (from ! (stop !))
+        (init ! 8 refl (LL.lawful T.the-type T′.the-laws 𝓤 H A W .typed (f (t .at)) (vals (f (t .at))) p .0)) $
         elem-back ! T.the-row q′ fs (t .at) noRecord (vals (f (t .at))) b o less $ shuts-slice ! tt T.the-row q′ fs b o $
         -- It goes, with the state, to `take_one`.
         move ! (4 ∷ []) $
-        use1 W (‵ Lens ⊛ ‵ Lens) (shr-slice-copy 𝓤 H A W (named 1) κd u32 .twice yd (sd ∷ [])) $ split ! $ nothing ! $ move ! (5 ∷ 0 ∷ []) $ join ! $ nothing ! $
-        owned ! T.the-row (Is T.the-row) (LL.makes T.the-type T′.the-plain 𝓤 H A) (f (t .at)) _ p $ owned ! PT.the-row (Is PT.the-row) (LL.makes PT.the-type PL.the-plain 𝓤 H A) (t .state) _ (t .is) $ move ! (4 ∷ 2 ∷ []) $ fjoin ! $
+        use1 W (‵ Lens ⊛ ‵ Lens) (shr-slice-copy 𝓤 H A W (named 1) κd u32 .twice yd (sd ∷ [])) $ split ! $ nothing ! $ move ! (5 ∷ 0 ∷ []) $ join ! $
+        nothing ! $
+        owned ! T.the-row (Is T.the-row) (LL.makes T.the-type T′.the-plain 𝓤 H A) (f (t .at)) _ p $
+        owned ! PT.the-row (Is PT.the-row) (LL.makes PT.the-type PL.the-plain 𝓤 H A) (t .state) _ (t .is) $ move ! (4 ∷ 2 ∷ []) $ fjoin ! $
         move ! (2 ∷ 0 ∷ []) $ fjoin ! $ move ! (1 ∷ 0 ∷ []) $ fjoin ! $ move ! (1 ∷ 0 ∷ []) $
         use2 W (raw (Step 𝓤 H A mem run .pre (to-step (t .state) (t .value) (f (t .at))))) (goes-step (t .state) (t .value) (f (t .at))) $
-        calls-at ! (fmOf 𝓤 H (W .laws) 𝓣) (Step 𝓤 H A mem run) known-step (to-step (t .state) (t .value) (f (t .at))) (and-then ! (load ! (from ! (stop !)) (look ! 15 refl)) (and-then ! (load ! (from ! (stop !)) (look ! 5 refl)) (and-then ! (load ! (from ! (stop !)) (look ! 19 refl)) (no-more !)))) (λ w.
-        use1 W (later (some (λ (r : Packed). ((‵ (flft κd qd) ⊛ ‵ ftrue) ⊛ ‵ (PT.the-row .own r (w ∷ []))) ⊛ raw (ensured 𝓤 H A step.ended (step.clauses 𝓤 H A mem run) (κd, tt) (t .state, (f (t .at), (yd, tt))) tt r)))) (id⊢ 𝓤 _) $ await ! tt $ pick ! (λ r.
+        calls-at ! (fmOf 𝓤 H (W .laws) 𝓣) (Step 𝓤 H A mem run) known-step (to-step (t .state) (t .value) (f (t .at)))
+        (and-then ! (load ! (from ! (stop !)) (look ! 15 refl)) (and-then ! (load ! (from ! (stop !)) (look ! 5 refl))
+        (and-then ! (load ! (from ! (stop !)) (look ! 19 refl)) (no-more !)))) (λ w.
+        use1 W (later (some (λ (r : Packed). ((‵ (flft κd qd) ⊛ ‵ ftrue) ⊛ ‵ (PT.the-row .own r (w ∷ [])))
+        ⊛ raw (ensured 𝓤 H A step.ended (step.clauses 𝓤 H A mem run) (to-step (t .state) (t .value) (f (t .at)) .0 .0) (to-step (t .state) (t .value)
+        (f (t .at)) .0 .3) tt r)))) (id⊢ 𝓤 _) $ await ! tt $ pick ! (λ r.
         split ! $ move ! (1 ∷ []) $
-        use1 W (some (λ (zs : (Unit {0} × (Unit {0} × (Unit {0} × Unit {0})))). ‵ (lasts step.ended (κd, tt) (t .state, (f (t .at), (yd, tt))) zs) ⊛ raw (fact 𝓤 (r ≡ packed (stepped lsd (unpacked (t .state)) (f (t .at))))))) (id⊢ 𝓤 _) $ pick ! (λ zs.
-        split ! $ move ! (1 ∷ []) $ heard ! (r ≡ packed (stepped lsd (unpacked (t .state)) (f (t .at)))) (λ e. move ! (1 ∷ []) $ split ! $ move ! (1 ∷ []) $ peeks ! PT.the-row (Is PT.the-row) (shows 𝓤 H A PT.the-row) r (w ∷ []) (λ is.
+        use1 W (some (λ (zs : (Unit {0} × (Unit {0} × (Unit {0} × Unit {0})))). ‵ (lasts step.ended (to-step (t .state) (t .value) (f (t .at)) .0 .0)
+        (to-step (t .state) (t .value) (f (t .at)) .0 .3) zs) ⊛ raw (fact 𝓤 (r ≡ packed (stepped lsd (unpacked (t .state)) (f (t .at))))))) (id⊢ 𝓤 _)
+        $ pick ! (λ zs.
+        split ! $ move ! (1 ∷ []) $ heard ! (r ≡ packed (stepped lsd (unpacked (t .state)) (f (t .at)))) (λ e. move ! (1 ∷ []) $ split ! $
+        move ! (1 ∷ []) $ peeks ! PT.the-row (Is PT.the-row) (shows 𝓤 H A PT.the-row) r (w ∷ []) (λ is.
         land ! (from ! (stop !)) (store ! 17 refl (LL.lawful PT.the-type PL.the-laws 𝓤 H A W .typed r _ is .0)) $ move ! (1 ∷ []) $ split ! $
-        assigns-last ! (bin ! (load ! (from ! (stop !)) (look ! 16 refl)) (lit ! tt) (record { fits = next-fits })) (from ! (stop !)) (store ! 16 refl (tt, record { fits = next-fits })) $
-        forget ! 14 refl $ forget ! 12 refl $ forget ! 10 refl $ forget ! 8 refl $ keep ! (5 ∷ 0 ∷ 6 ∷ 7 ∷ 4 ∷ 8 ∷ 9 ∷ 10 ∷ 11 ∷ 12 ∷ 13 ∷ 14 ∷ 15 ∷ 16 ∷ 17 ∷ 18 ∷ 19 ∷ 20 ∷ 21 ∷ 22 ∷ 23 ∷ 24 ∷ 25 ∷ 26 ∷ 27 ∷ []) $
-        again ! Nearer At t (record { at = t .at + 1; within = add-one-le less; state = r; value = w; is = is; same = after-more lsd fs (t .at) less (t .same) e }) (add-one-dec n (t .at) less))))))))
+        assigns-last ! (bin ! (load ! (from ! (stop !)) (look ! 16 refl)) (lit ! tt) (record { fits = next-fits })) (from ! (stop !))
+        (store ! 16 refl (tt, record { fits = next-fits })) $
+        forget ! 14 refl $ forget ! 12 refl $ forget ! 10 refl $ forget ! 8 refl $
+        keep ! (5 ∷ 0 ∷ 6 ∷ 7 ∷ 4 ∷ 8 ∷ 9 ∷ 10 ∷ 11 ∷ 12 ∷ 13 ∷ 14 ∷ 15 ∷ 16 ∷ 17 ∷ 18 ∷ 19 ∷ 20 ∷ 21 ∷ 22 ∷ 23 ∷ 24 ∷ 25 ∷ 26 ∷ 27 ∷ []) $
+        again ! Nearer At t (record {
+          at = t .at + 1;
+          within = add-one-le less;
+          state = r;
+          value = w;
+          is = is;
+          same = after-more lsd fs (t .at) less
+              (t .same) e;
+        }) (add-one-dec n (t .at) less))))))))
       where
         next-fits : t .at + 1 < 2 ^ 64
         next-fits = lt-of-le-of-lt (add-one-le less) (g .0)
@@ -244,57 +283,89 @@ module _ {M : Type 1} (𝓤 : URA M) (H : Heap 𝓤) (A : Atoms 𝓤) (W : Given
     ends : (t : Turn) → t .at ≡ n → Sq W (At t) (runs C Λ En mir.turn-1 (anyQ (Turned t)))
     unfolding afterTurn
     ends t e =
-        assigns ! (bin ! (load ! (from ! (stop !)) (look ! 13 refl)) (load ! (from ! (stop !)) (look ! 17 refl)) tt) (from ! (stop !)) (init ! 11 refl (tt, tt)) $
-        rewrite ! 11 (λ (b : Bool). ‵ (fat fullShare tyBool l₆ 0 (vbool b))) (le-ltb (t .at) n (omega arith)) refl $ leaves-loop ! (load ! (from ! (stop !)) (look ! 11 refl)) $ exec ! C Λ En mir.t-5 (atRet En Post) $
-        assigns ! (of-opd ! (load ! (from ! (stop !)) (look ! 15 refl))) (from ! (stop !)) (init ! 23 refl (LL.lawful PT.the-type PL.the-laws 𝓤 H A W .typed (t .state) _ (t .is) .0)) $ returns ! (look ! 23 refl) $
-        forget ! 11 refl $ forget ! 13 refl $ forget ! 15 refl $ forget ! 17 refl $ forget ! 19 refl $ forget ! 21 refl $ forget ! 23 refl $ move ! (23 ∷ 24 ∷ []) $ free1 ! $ move ! (21 ∷ 22 ∷ []) $ free1 ! $ move ! (19 ∷ 20 ∷ []) $
-        free1 ! $ move ! (17 ∷ 18 ∷ []) $ free1 ! $ move ! (15 ∷ 16 ∷ []) $ free1 ! $ move ! (13 ∷ 14 ∷ []) $ free1 ! $ move ! (11 ∷ 12 ∷ []) $ free1 ! $ move ! (9 ∷ 10 ∷ []) $ free1 ! $ move ! (7 ∷ 8 ∷ []) $ free1 ! $
-        move ! (5 ∷ 6 ∷ []) $ free1 ! $ free0 ! $ owned ! PT.the-row (Is PT.the-row) (LL.makes PT.the-type PL.the-plain 𝓤 H A) (t .state) _ (t .is) $ keep ! (1 ∷ 2 ∷ 4 ∷ 5 ∷ 0 ∷ []) $
+        assigns ! (bin ! (load ! (from ! (stop !)) (look ! 13 refl)) (load ! (from ! (stop !)) (look ! 17 refl)) tt) (from ! (stop !))
+        (init ! 11 refl (tt, tt)) $
+        rewrite ! 11 (λ (b : Bool). ‵ (fat fullShare tyBool l₆ 0 (vbool b))) (le-ltb (t .at) n (omega arith)) refl $
+        leaves-loop ! (load ! (from ! (stop !)) (look ! 11 refl)) $ exec ! C Λ En mir.t-5 (atRet En Post) $
+        assigns ! (of-opd ! (load ! (from ! (stop !)) (look ! 15 refl))) (from ! (stop !)) (init ! 23 refl (LL.lawful PT.the-type PL.the-laws 𝓤 H A
+        W .typed (t .state) _ (t .is) .0)) $ returns ! (look ! 23 refl) $
+        forget ! 11 refl $ forget ! 13 refl $ forget ! 15 refl $ forget ! 17 refl $ forget ! 19 refl $ forget ! 21 refl $ forget ! 23 refl $
+        move ! (23 ∷ 24 ∷ []) $ free1 ! $ move ! (21 ∷ 22 ∷ []) $ free1 ! $ move ! (19 ∷ 20 ∷ []) $
+        free1 ! $ move ! (17 ∷ 18 ∷ []) $ free1 ! $ move ! (15 ∷ 16 ∷ []) $ free1 ! $ move ! (13 ∷ 14 ∷ []) $ free1 ! $ move ! (11 ∷ 12 ∷ []) $
+        free1 ! $ move ! (9 ∷ 10 ∷ []) $ free1 ! $ move ! (7 ∷ 8 ∷ []) $ free1 ! $
+        move ! (5 ∷ 6 ∷ []) $ free1 ! $ free0 ! $ owned ! PT.the-row (Is PT.the-row) (LL.makes PT.the-type PL.the-plain 𝓤 H A) (t .state) _ (t .is) $
+        keep ! (1 ∷ 2 ∷ 4 ∷ 5 ∷ 0 ∷ []) $
         by ! (exits (t .state) (t .value) (after-all lsd fs (t .at) e (t .same)))
 
     turns : (t : Turn) → Sq W (At t) (runs C Λ En mir.turn-1 (anyQ (Turned t)))
     turns t = ⊎-elim (ends t) (more t) (eq-or-lt-of-le (t .within))
 
-  walk : (𝓣 : Tables 𝓤 H) → Triple 𝓤 (𝓣 .C #start) (Start 𝓤 H A mem run) → Triple 𝓤 (𝓣 .C #step) (Step 𝓤 H A mem run) → Room T.the-row n → Room u32 (length lsd)
+  walk : (𝓣 : Tables 𝓤 H) → Triple 𝓤 (𝓣 .C #start) (Start 𝓤 H A mem run) → Triple 𝓤 (𝓣 .C #step) (Step 𝓤 H A mem run) → Room T.the-row n
+      → Room u32 (length lsd)
       → ent 𝓤 (onEntry 𝓤 H A this.signature (κ, (κd, tt)) (q, (qd, tt)) (x, (yd, tt)) at) (WpFn 𝓤 H (𝓣 .C) (𝓣 .Λ) code.function (s ∷ sd ∷ []) Post)
   walk 𝓣 known-start known-step g gd =
-      qed W ((‵ (flft κ q) ⊛ (‵ (flft κd qd) ⊛ ‵ ftrue)) ∷ ‵ (owns (ShrSlice (named 0) κ T.the-row ∷ ShrSlice (named 1) κd u32 ∷ []) (x, (yd, tt)) at) ∷ []) ∵ enter ! (𝓣 .C) (𝓣 .Λ) code.function (s ∷ sd ∷ []) _ $
-      alloc1 ! (λ l₀. alloc1 ! (λ l₁. alloc1 ! (λ l₂. alloc1 ! (λ l₃. alloc1 ! (λ l₄. alloc1 ! (λ l₅. alloc1 ! (λ l₆. alloc1 ! (λ l₇. alloc1 ! (λ l₈. alloc1 ! (λ l₉. alloc0 ! $ params1 ! $
-      pass1 ! (init ! 16 refl (tt, (tt, (record { fits = g .0 }, tt)))) $ pass1 ! (init ! 14 refl (tt, (tt, (record { fits = gd .0 }, tt)))) $ pass0 ! $
-      assigns ! (of-opd ! (load ! (from ! (fld ! refl (stop !))) (look-in ! 16 (sub ! 1 refl (whole !))))) (from ! (stop !)) (init ! 12 refl (tt, record { fits = g .0 })) $
+      qed W ((‵ (flft κ q) ⊛ (‵ (flft κd qd) ⊛ ‵ ftrue)) ∷ ‵ (owns (ShrSlice (named 0) κ T.the-row ∷ ShrSlice (named 1) κd u32 ∷ []) (x, (yd, tt)) at)
+      ∷ []) ∵ enter ! (𝓣 .C) (𝓣 .Λ) code.function (s ∷ sd ∷ []) _ $
+      alloc1
+      ! (λ l₀. alloc1
+      ! (λ l₁. alloc1
+      ! (λ l₂. alloc1 ! (λ l₃. alloc1 ! (λ l₄. alloc1 ! (λ l₅. alloc1 ! (λ l₆. alloc1 ! (λ l₇. alloc1 ! (λ l₈. alloc1 ! (λ l₉. alloc0 ! $ params1 ! $
+      pass1 ! (init ! 16 refl (tt, (tt, (record { fits = g .0 }, tt)))) $ pass1 ! (init ! 14 refl (tt, (tt, (record { fits = gd .0 }, tt)))) $
+      pass0 ! $
+      assigns ! (of-opd ! (load ! (from ! (fld ! refl (stop !))) (look-in ! 16 (sub ! 1 refl (whole !))))) (from ! (stop !))
+      (init ! 12 refl (tt, record { fits = g .0 })) $
       -- What the slices own can be copied: one copy of each is kept for the exit; of the records, the other is the borrow that is read.
       move ! (21 ∷ []) $ fsplit ! $ move ! (1 ∷ []) $ fsplit ! $ move ! (2 ∷ []) $
-      use1 W (‵ Records ⊛ ‵ Records) (shr-slice-copy 𝓤 H A W (named 0) κ T.the-row .twice x (s ∷ [])) $ split ! $ fsplit ! $ drop ! $ fsplit ! $ drop ! $ move ! (24 ∷ []) $ split ! $ move ! (1 ∷ []) $ split ! $
+      use1 W (‵ Records ⊛ ‵ Records) (shr-slice-copy 𝓤 H A W (named 0) κ T.the-row .twice x (s ∷ [])) $ split ! $ fsplit ! $ drop ! $ fsplit ! $
+      drop ! $ move ! (24 ∷ []) $ split ! $ move ! (1 ∷ []) $ split ! $
       -- The state before the first record.
       move ! (5 ∷ []) $
-      use1 W (‵ Lens ⊛ ‵ Lens) (shr-slice-copy 𝓤 H A W (named 1) κd u32 .twice yd (sd ∷ [])) $ split ! $ nothing ! $ move ! (3 ∷ 0 ∷ []) $ join ! $ nothing ! $ move ! (2 ∷ 0 ∷ []) $ fjoin ! $ move ! (1 ∷ 0 ∷ []) $
+      use1 W (‵ Lens ⊛ ‵ Lens) (shr-slice-copy 𝓤 H A W (named 1) κd u32 .twice yd (sd ∷ [])) $ split ! $ nothing ! $ move ! (3 ∷ 0 ∷ []) $ join ! $
+      nothing ! $ move ! (2 ∷ 0 ∷ []) $ fjoin ! $ move ! (1 ∷ 0 ∷ []) $
       use2 W (raw (Start 𝓤 H A mem run .pre (to-start))) (goes-start) $
-      calls-at ! (fmOf 𝓤 H (W .laws) 𝓣) (Start 𝓤 H A mem run) known-start (to-start) (and-then ! (load ! (from ! (stop !)) (look ! 21 refl)) (no-more !)) (λ w.
-      use1 W (later (some (λ (r : Packed). ((‵ (flft κd qd) ⊛ ‵ ftrue) ⊛ ‵ (PT.the-row .own r (w ∷ []))) ⊛ raw (ensured 𝓤 H A start.ended (start.clauses 𝓤 H A mem run) (κd, tt) (yd, tt) tt r)))) (id⊢ 𝓤 _) $ await ! tt $ pick ! (λ r.
+      calls-at ! (fmOf 𝓤 H (W .laws) 𝓣) (Start 𝓤 H A mem run) known-start (to-start) (and-then ! (load ! (from ! (stop !)) (look ! 21 refl))
+      (no-more !)) (λ w.
+      use1 W (later (some (λ (r : Packed). ((‵ (flft κd qd) ⊛ ‵ ftrue) ⊛ ‵ (PT.the-row .own r (w ∷ [])))
+      ⊛ raw (ensured 𝓤 H A start.ended (start.clauses 𝓤 H A mem run) (to-start .0 .0) (to-start .0 .3) tt r)))) (id⊢ 𝓤 _) $ await ! tt $ pick ! (λ r.
       split ! $ move ! (1 ∷ []) $
-      use1 W (some (λ (zs : (Unit {0} × Unit {0})). ‵ (lasts start.ended (κd, tt) (yd, tt) zs) ⊛ raw (fact 𝓤 (r ≡ packed (started lsd))))) (id⊢ 𝓤 _) $ pick ! (λ zs. split ! $ move ! (1 ∷ []) $ heard ! (r ≡ packed (started lsd)) (λ e.
-      move ! (1 ∷ []) $ split ! $ move ! (1 ∷ []) $ peeks ! PT.the-row (Is PT.the-row) (shows 𝓤 H A PT.the-row) r (w ∷ []) (λ is. land ! (from ! (stop !)) (init ! 19 refl (LL.lawful PT.the-type PL.the-laws 𝓤 H A W .typed r _ is .0)) $
+      use1 W (some (λ (zs : (Unit {0} × Unit {0})). ‵ (lasts start.ended (to-start .0 .0) (to-start .0 .3) zs)
+      ⊛ raw (fact 𝓤 (r ≡ packed (started lsd))))) (id⊢ 𝓤 _) $ pick ! (λ zs. split ! $ move ! (1 ∷ []) $ heard ! (r ≡ packed (started lsd)) (λ e.
+      move ! (1 ∷ []) $ split ! $ move ! (1 ∷ []) $
+      peeks ! PT.the-row (Is PT.the-row) (shows 𝓤 H A PT.the-row) r (w ∷ []) (λ is. land ! (from ! (stop !))
+      (init ! 19 refl (LL.lawful PT.the-type PL.the-laws 𝓤 H A W .typed r _ is .0)) $
       move ! (1 ∷ []) $ split ! $
       assigns ! (of-opd ! (lit ! tt)) (from ! (stop !)) (init ! 18 refl (tt, record { fits = lit< tt })) $
       keep ! (6 ∷ 0 ∷ 7 ∷ 8 ∷ 4 ∷ 10 ∷ 11 ∷ 12 ∷ 13 ∷ 14 ∷ 15 ∷ 16 ∷ 17 ∷ 18 ∷ 19 ∷ 20 ∷ 21 ∷ 22 ∷ 23 ∷ 24 ∷ 25 ∷ 26 ∷ 27 ∷ 28 ∷ 29 ∷ []) $
-      first ! $ blocks ! $ loops ! 𝓣 Nearer Nearer-wf (At 𝓣 known-start known-step g gd l₀ l₁ l₂ l₃ l₄ l₅ l₆ l₇ l₈ l₉) (turns 𝓣 known-start known-step g gd l₀ l₁ l₂ l₃ l₄ l₅ l₆ l₇ l₈ l₉) (record { at = 0; within = zero-le; state = r; value = w; is = is; same = after-none lsd fs e }))))))))))))))))
+      first ! $ blocks ! $
+      loops ! 𝓣 Nearer Nearer-wf (At 𝓣 known-start known-step g gd l₀ l₁ l₂ l₃ l₄ l₅ l₆ l₇ l₈ l₉) (turns 𝓣 known-start known-step g gd l₀ l₁ l₂ l₃ l₄
+      l₅ l₆ l₇ l₈ l₉) (record { at = 0; within = zero-le; state = r; value = w; is = is; same = after-none lsd fs e }))))))))))))))))
 
 module _ {M : Type 1} (𝓤 : URA M) (H : Heap 𝓤) (A : Atoms 𝓤) (W : Given 𝓤 H A) (mem : Memory → SProp 𝓤) (run : Routine → Fun 𝓤) where
-  judge-records-walks : (𝓣 : Tables 𝓤 H) → Triple 𝓤 (𝓣 .C #start) (Start 𝓤 H A mem run) → Triple 𝓤 (𝓣 .C #step) (Step 𝓤 H A mem run) → Walks 𝓤 H A this.ended stayed (WpFn 𝓤 H (𝓣 .C) (𝓣 .Λ) code.function) (this.clauses 𝓤 H A mem run)
+  judge-records-walks : (𝓣 : Tables 𝓤 H) → Triple 𝓤 (𝓣 .C #start) (Start 𝓤 H A mem run) → Triple 𝓤 (𝓣 .C #step) (Step 𝓤 H A mem run)
+      → Walks 𝓤 H A this.ended stayed (WpFn 𝓤 H (𝓣 .C) (𝓣 .Λ) code.function) (this.clauses 𝓤 H A mem run)
   judge-records-walks 𝓣 known-start known-step = walked 𝓤 H A this.ended stayed (this.clauses 𝓤 H A mem run) (WpFn 𝓤 H (𝓣 .C) (𝓣 .Λ) code.function)
       (λ κs. (slice-vals, (slice-vals, tt))) (λ κs. (shr-slice-tells (named 0) (κs .0) T.the-row, (shr-slice-tells (named 1) (κs .1 .0) u32, tt)))
-      (λ κs qs bounds a g are. via 𝓤 _ (fst∗ 𝓤 _ (emp 𝓤)) (walk 𝓤 H A W mem run (κs .0) (κs .1 .0) (qs .0) (qs .1 .0) (a .0 .ptr .0) (a .0 .ptr .1) (a .0 .name) (a .0 .now) (a .1 .0 .ptr .0) (a .1 .0 .ptr .1) (a .1 .0 .name) (a .1 .0 .now) 𝓣 known-start known-step (are .0 .0 .1) (are .1 .0 .0 .1)))
+      (λ κs qs bounds a g are. via 𝓤 _ (fst∗ 𝓤 _ (emp 𝓤)) (walk 𝓤 H A W mem run (κs .0) (κs .1 .0) (qs .0) (qs .1 .0) (a .0 .ptr .0) (a .0 .ptr .1)
+      (a .0 .name) (a .0 .now) (a .1 .0 .ptr .0) (a .1 .0 .ptr .1) (a .1 .0 .name) (a .1 .0 .now) 𝓣 known-start known-step (are .0 .0 .1)
+      (are .1 .0 .0 .1)))
 
-judge-records-meets : {M : Type 1} (𝓤 : URA M) (H : Heap 𝓤) (A : Atoms 𝓤) → Given 𝓤 H A → (mem : Memory → SProp 𝓤) (run : Routine → Fun 𝓤) (𝓣 : Tables 𝓤 H) → Triple 𝓤 (𝓣 .C #start) (Start 𝓤 H A mem run) → Triple 𝓤 (𝓣 .C #step) (Step 𝓤 H A mem run)
+judge-records-meets : {M : Type 1} (𝓤 : URA M) (H : Heap 𝓤) (A : Atoms 𝓤) → Given 𝓤 H A
+    → (mem : Memory → SProp 𝓤) (run : Routine → Fun 𝓤) (𝓣 : Tables 𝓤 H) → Triple 𝓤 (𝓣 .C #start) (Start 𝓤 H A mem run)
+    → Triple 𝓤 (𝓣 .C #step) (Step 𝓤 H A mem run)
     → Meets 𝓤 H A this.signature (WpFn 𝓤 H (𝓣 .C) (𝓣 .Λ) code.function) (this.spec 𝓤 H A mem run)
 judge-records-meets 𝓤 H A W mem run 𝓣 known-start known-step =
-    walk-meets 𝓤 H A this.ended stayed W (goes-none-slice 𝓤 H A W 2 (0 ∷ []) tt (plain (λ _. T.the-row)) yes, (goes-none-slice 𝓤 H A W 2 (1 ∷ []) tt (plain (λ _. u32)) yes, tt)) (this.clauses 𝓤 H A mem run)
+    walk-meets 𝓤 H A this.ended stayed W (
+      goes-none-slice 𝓤 H A W 2 (0 ∷ []) tt (plain (λ _. T.the-row)) yes,
+      (goes-none-slice 𝓤 H A W 2 (1 ∷ []) tt (plain (λ _. u32)) yes, tt),
+    ) (this.clauses 𝓤 H A mem run)
     (WpFn 𝓤 H (𝓣 .C) (𝓣 .Λ) code.function) (WpFn-mono 𝓤 H (W .laws) 𝓣 code.function) (judge-records-walks 𝓤 H A W mem run 𝓣 known-start known-step)
 
 pub judge-records-spec : {M : Type 1} → stated.statement M
 unfolding code.routine tablesOf
 judge-records-spec 𝓤 H 𝓜 𝓖 𝓡 =
-    entered 𝓤 H (tripleOf 𝓤 H (𝓖 .A) this.signature (this.spec 𝓤 H (𝓖 .A) (𝓜 .mem) (𝓡 .run))) (tables 𝓤 H 𝓜 𝓡 code.env .C) (tables 𝓤 H 𝓜 𝓡 code.env .Λ) #judge-records code.function (code.unfolded 𝓤 H 𝓜 𝓡)
+    entered 𝓤 H (tripleOf 𝓤 H (𝓖 .A) this.signature (this.spec 𝓤 H (𝓖 .A) (𝓜 .mem) (𝓡 .run))) (tables 𝓤 H 𝓜 𝓡 code.env .C)
+    (tables 𝓤 H 𝓜 𝓡 code.env .Λ) #judge-records code.function (code.unfolded 𝓤 H 𝓜 𝓡)
     (judge-records-meets 𝓤 H (𝓖 .A) (givenOf 𝓤 H 𝓜 𝓖) (𝓜 .mem) (𝓡 .run) (tablesOf 𝓤 H 𝓜 (tables 𝓤 H 𝓜 𝓡 code.env))
-    (cited 𝓤 H (Start 𝓤 H (𝓖 .A) (𝓜 .mem) (𝓡 .run)) 𝓜 𝓡 code.env #start start-def.routine code.calls-records·packed·begin-all (start-thm.met 𝓤 H 𝓜 𝓖 𝓡))
+    (cited 𝓤 H (Start 𝓤 H (𝓖 .A) (𝓜 .mem) (𝓡 .run)) 𝓜 𝓡 code.env #start start-def.routine code.calls-records·packed·begin-all
+    (start-thm.met 𝓤 H 𝓜 𝓖 𝓡))
     (cited 𝓤 H (Step 𝓤 H (𝓖 .A) (𝓜 .mem) (𝓡 .run)) 𝓜 𝓡 code.env #step step-def.routine code.calls-records·packed·take-one (step-thm.met 𝓤 H 𝓜 𝓖 𝓡)))

@@ -51,7 +51,10 @@ same-length c = search needs
 
 returns-3 : tie.Need-returns-3
 unfolding putAt
-returns-3 c = simp (le-ltb _ _ (long-enough _ _ (c .before .before .before .if1 .left)), lt-leb _ _ (c .before .before .if2 .left), c .read-time .ensures)
+returns-3 c =
+    let at-if2 = c .before .before in
+    let at-if1 = at-if2 .before in
+    simp (le-ltb _ _ (long-enough _ _ (at-if1 .if1 .left)), lt-leb _ _ (at-if2 .if2 .left), c .read-time .ensures)
 
 pub put-columns-spec : {M : Type 1} → statement M
 put-columns-spec =

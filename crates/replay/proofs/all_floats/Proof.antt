@@ -1,4 +1,4 @@
--- `replay::all_floats` meets its contract: what is left decides. Assumes nothing.
+-- `replay::all_floats` meets its contract: what is left decides.
 use mathlib.Core.Path.{_≡_, refl, sym, _∙_}
 use Prim.Native.Nat.{_-_}
 use native.Mathlib.Omega.{arith}
@@ -32,9 +32,12 @@ bits-of-requires-2 c κs = search needs
 
 returns : tie.Need-returns Inv-loop μ-loop
 returns c =
-    let l = c .before .before .before .before in
-    let s = l .before .before .before in
-    floats-stop (s .args .x) (s .args .s .now) (l .loop .i) (c .before .before .before .loop-test .taken) (λ e. c .if1 .taken (c .before .bits-of2 .ensures ∙ e ∙ sym (l .before .bits-of .ensures))) ∙ l .loop .inv
+    let at-test = c .before .before .before in
+    let at-loop = at-test .before in
+    let after-bits-of = at-loop .before in
+    let at-start = after-bits-of .before .before in
+    floats-stop (at-start .args .x) (at-start .args .s .now) (at-loop .loop .i) (at-test .loop-test .taken)
+    (λ e. c .if1 .taken (c .before .bits-of2 .ensures ∙ e ∙ sym (after-bits-of .bits-of .ensures))) ∙ at-loop .loop .inv
 
 add-i : tie.Need-add-i Inv-loop μ-loop
 add-i c = omega arith
@@ -44,12 +47,18 @@ loop-less c = omega arith
 
 loop-again : tie.Need-loop-again Inv-loop μ-loop
 loop-again c =
-    let l = c .before .before .before .before in
-    let s = l .before .before .before in
-    floats-on (s .args .x) (s .args .s .now) (l .loop .i) (c .before .before .before .loop-test .taken) (sym (c .before .bits-of2 .ensures) ∙ c .if1 .left ∙ l .before .bits-of .ensures) ∙ l .loop .inv
+    let at-test = c .before .before .before in
+    let at-loop = at-test .before in
+    let after-bits-of = at-loop .before in
+    let at-start = after-bits-of .before .before in
+    floats-on (at-start .args .x) (at-start .args .s .now) (at-loop .loop .i) (at-test .loop-test .taken)
+    (sym (c .before .bits-of2 .ensures) ∙ c .if1 .left ∙ after-bits-of .bits-of .ensures) ∙ at-loop .loop .inv
 
 returns-2 : tie.Need-returns-2 Inv-loop μ-loop
-returns-2 c = floats-end (c .before .before .before .before .args .x) (c .before .before .before .before .args .s .now) (c .before .loop .i) (c .loop-test .left) ∙ c .before .loop .inv
+returns-2 c =
+    let at-loop = c .before in
+    let at-start = at-loop .before .before .before in
+    floats-end (at-start .args .x) (at-start .args .s .now) (at-loop .loop .i) (c .loop-test .left) ∙ at-loop .loop .inv
 
 pub all-floats-spec : {M : Type 1} → statement M
 all-floats-spec =

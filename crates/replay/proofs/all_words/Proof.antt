@@ -1,4 +1,4 @@
--- `replay::all_words` meets its contract: what is left decides. Assumes nothing.
+-- `replay::all_words` meets its contract: what is left decides.
 use mathlib.Core.Path.{_≡_, refl, sym, _∙_}
 use Prim.Native.Nat.{_-_}
 use native.Mathlib.Omega.{arith}
@@ -34,13 +34,16 @@ same-word-requires c κs = search needs
 
 returns : tie.Need-returns Inv-loop μ-loop
 returns c =
-    let l = c .before .before .before .before in
-    let s = l .before in
-    let w = toZ-ofZ (s .fits .w) in
-    let fits : SFits w32 (getD (s .args .s .now) (l .loop .i) (pos 0)) = record { sfits = c .before .before .same-word-arg .given } in
+    let at-same-word-arg = c .before .before in
+    let at-test = at-same-word-arg .before in
+    let at-loop = at-test .before in
+    let at-start = at-loop .before in
+    let args = at-start .args in
+    let w = toZ-ofZ (at-start .fits .w) in
+    let fits : SFits w32 (getD (args .s .now) (at-loop .loop .i) (pos 0)) = record { sfits = at-same-word-arg .same-word-arg .given } in
     let v = toZ-ofZ fits in
     let t = rw (w, v) at (sym (c .before .same-word .ensures) ∙ not-true _ (c .if1 .taken)) in
-    words-stop (s .args .w) (s .args .s .now) (l .loop .i) (c .before .before .before .loop-test .taken) t ∙ rw w at (l .loop .inv)
+    words-stop (args .w) (args .s .now) (at-loop .loop .i) (at-test .loop-test .taken) t ∙ rw w at (at-loop .loop .inv)
 
 add-i : tie.Need-add-i Inv-loop μ-loop
 add-i c = omega arith
@@ -50,16 +53,23 @@ loop-less c = omega arith
 
 loop-again : tie.Need-loop-again Inv-loop μ-loop
 loop-again c =
-    let l = c .before .before .before .before in
-    let s = l .before in
-    let w = toZ-ofZ (s .fits .w) in
-    let fits : SFits w32 (getD (s .args .s .now) (l .loop .i) (pos 0)) = record { sfits = c .before .before .same-word-arg .given } in
+    let at-same-word-arg = c .before .before in
+    let at-test = at-same-word-arg .before in
+    let at-loop = at-test .before in
+    let at-start = at-loop .before in
+    let args = at-start .args in
+    let w = toZ-ofZ (at-start .fits .w) in
+    let fits : SFits w32 (getD (args .s .now) (at-loop .loop .i) (pos 0)) = record { sfits = at-same-word-arg .same-word-arg .given } in
     let v = toZ-ofZ fits in
     let t = rw (w, v) at (sym (c .before .same-word .ensures) ∙ not-false _ (c .if1 .left)) in
-    rw w (words-on (s .args .w) (s .args .s .now) (l .loop .i) (c .before .before .before .loop-test .taken) t ∙ rw w at (l .loop .inv))
+    rw w (words-on (args .w) (args .s .now) (at-loop .loop .i) (at-test .loop-test .taken) t ∙ rw w at (at-loop .loop .inv))
 
 returns-2 : tie.Need-returns-2 Inv-loop μ-loop
-returns-2 c = words-end (c .before .before .args .w) (c .before .before .args .s .now) (c .before .loop .i) (c .loop-test .left) ∙ rw (toZ-ofZ (c .before .before .fits .w)) at (c .before .loop .inv)
+returns-2 c =
+    let at-loop = c .before in
+    let at-start = at-loop .before in
+    words-end (at-start .args .w) (at-start .args .s .now) (at-loop .loop .i) (c .loop-test .left) ∙ rw (toZ-ofZ (at-start .fits .w)) at
+    (at-loop .loop .inv)
 
 pub all-words-spec : {M : Type 1} → statement M
 all-words-spec =

@@ -1,4 +1,4 @@
--- `replay::bits_of` meets its contract. Assumes nothing.
+-- `replay::bits_of` meets its contract.
 use Rattle.float.proofs.Special.{no-nan}
 use Rattle.replay.proofs.All.{nan-bits}
 use borrow.Author.Needs.{needs}

@@ -1,4 +1,4 @@
--- `replay::first_digit` meets its contract: the first digit after each byte passed is that after `at`. Assumes nothing.
+-- `replay::first_digit` meets its contract: the first digit after each byte passed is that after `at`.
 use mathlib.Core.Path.{_≡_, sym, _∙_}
 use Prim.Native.Nat.{_-_}
 use native.Mathlib.Omega.{arith}
@@ -26,9 +26,11 @@ is-digit-requires c κs = search needs
 
 returns : tie.Need-returns Inv-loop μ-loop
 returns c =
-    let l = c .before .before .before .before in
-    let s = l .before .before in
-    before-stop (s .args .text .now) (l .loop .i) (c .before .before .before .loop-test .taken) (sym (c .before .is-digit .ensures) ∙ c .if1 .taken) ∙ l .loop .inv
+    let at-test = c .before .before .before in
+    let at-loop = at-test .before in
+    let at-start = at-loop .before .before in
+    before-stop (at-start .args .text .now) (at-loop .loop .i) (at-test .loop-test .taken) (sym (c .before .is-digit .ensures) ∙ c .if1 .taken) ∙
+    at-loop .loop .inv
 
 add-i : tie.Need-add-i Inv-loop μ-loop
 add-i c = omega arith
@@ -38,12 +40,17 @@ loop-less c = omega arith
 
 loop-again : tie.Need-loop-again Inv-loop μ-loop
 loop-again c =
-    let l = c .before .before .before .before in
-    let s = l .before .before in
-    before-on (s .args .text .now) (l .loop .i) (c .before .before .before .loop-test .taken) (sym (c .before .is-digit .ensures) ∙ c .if1 .left) ∙ l .loop .inv
+    let at-test = c .before .before .before in
+    let at-loop = at-test .before in
+    let at-start = at-loop .before .before in
+    before-on (at-start .args .text .now) (at-loop .loop .i) (at-test .loop-test .taken) (sym (c .before .is-digit .ensures) ∙ c .if1 .left) ∙
+    at-loop .loop .inv
 
 returns-2 : tie.Need-returns-2 Inv-loop μ-loop
-returns-2 c = let l = c .before in before-end (l .before .before .args .text .now) (l .loop .i) (c .loop-test .left) ∙ l .loop .inv
+returns-2 c =
+    let at-loop = c .before in
+    let at-start = at-loop .before .before in
+    before-end (at-start .args .text .now) (at-loop .loop .i) (c .loop-test .left) ∙ at-loop .loop .inv
 
 pub first-digit-spec : {M : Type 1} → statement M
 first-digit-spec =

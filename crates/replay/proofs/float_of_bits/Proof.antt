@@ -1,4 +1,4 @@
--- `replay::float_of_bits` meets its contract: a pattern above the infinity's is a NaN's. Assumes nothing.
+-- `replay::float_of_bits` meets its contract: a pattern above the infinity's is a NaN's.
 use mathlib.Core.Path.{_≡_, refl, sym, _∙_, subst}
 use mathlib.Core.Bool.{Bool, true, not}
 use Prim.Native.Nat.{_%_, _^_}
@@ -23,7 +23,9 @@ zero-by-zero = refl
 returns : tie.Need-returns
 returns c =
     let b = c .before .args .bits in
-    zero-by-zero ∙ sym (is-nan (ofBits binary64 b) (sym (nanBits-is binary64 b) ∙ nanBits-above binary64 b ∙ lt-ltb 0x7ff0_0000_0000_0000 (b % 2 ^ 63) (c .if1 .taken)))
+    zero-by-zero ∙ sym
+    (is-nan (ofBits binary64 b)
+    (sym (nanBits-is binary64 b) ∙ nanBits-above binary64 b ∙ lt-ltb 0x7ff0_0000_0000_0000 (b % 2 ^ 63) (c .if1 .taken)))
 
 float-from-bits-result : tie.Need-float-from-bits-result
 float-from-bits-result c =

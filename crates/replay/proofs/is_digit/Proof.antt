@@ -1,4 +1,4 @@
--- `replay::is_digit` meets its contract. Assumes nothing.
+-- `replay::is_digit` meets its contract.
 use mathlib.Core.Path.{sym, ap}
 use mathlib.Core.Bool.{Bool, _&&_}
 use borrow.Author.Tests.{le-leb, lt-leb}

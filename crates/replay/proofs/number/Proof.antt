@@ -1,4 +1,4 @@
--- `replay::number` meets its contract. Assumes nothing.
+-- `replay::number` meets its contract.
 use mathlib.Core.Path.{ap, _∙_}
 use Prim.Native.Nat.{ℕ, _+_}
 use lib.ListN.{drop}
@@ -15,9 +15,11 @@ number-at-requires c κs = search needs
 
 returns : tie.Need-returns
 returns c =
-    let t = c .before .before .before .args .text .now in (
-      c .number-at .ensures .0 ∙ ap (λ (i : ℕ). value 0 (drop i t)) (c .before .first-digit .ensures),
-      c .number-at .ensures .1 ∙ ap (λ (i : ℕ). i + digits (drop i t)) (c .before .first-digit .ensures),
+    let after-first-digit = c .before in
+    let at-start = after-first-digit .before .before in
+    let t = at-start .args .text .now in (
+      c .number-at .ensures .0 ∙ ap (λ (i : ℕ). value 0 (drop i t)) (after-first-digit .first-digit .ensures),
+      c .number-at .ensures .1 ∙ ap (λ (i : ℕ). i + digits (drop i t)) (after-first-digit .first-digit .ensures),
     )
 
 pub number-spec : {M : Type 1} → statement M

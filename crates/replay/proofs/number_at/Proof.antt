@@ -1,4 +1,4 @@
--- `replay::number_at` meets its contract: what n and the digits that are left make, and where they end, stays the same. Assumes nothing.
+-- `replay::number_at` meets its contract: what n and the digits that are left make, and where they end, stays the same.
 use mathlib.Core.Path.{_≡_, sym, ap, _∙_}
 use Prim.Native.Nat.{ℕ, _+_, _-_}
 use native.Mathlib.Omega.{arith}
@@ -27,17 +27,21 @@ is-digit-requires c κs = search needs
 
 returns : tie.Need-returns Inv-loop μ-loop
 returns c =
-    let l = c .before .before .before .before in
-    let t = l .before .before .args .text .now in
-    let h = c .before .before .before .loop-test .taken in
+    let at-test = c .before .before .before in
+    let at-loop = at-test .before in
+    let at-start = at-loop .before .before in
+    let t = at-start .args .text .now in
+    let h = at-test .loop-test .taken in
     let e = sym (c .before .is-digit .ensures) ∙ not-true _ (c .if1 .taken) in
-    (value-stop t (l .loop .i) h (l .loop .n) e ∙ l .loop .inv .0, digits-stop t (l .loop .i) h e ∙ l .loop .inv .1)
+    (value-stop t (at-loop .loop .i) h (at-loop .loop .n) e ∙ at-loop .loop .inv .0, digits-stop t (at-loop .loop .i) h e ∙ at-loop .loop .inv .1)
 
 shared-slice-read-with-digit : tie.Need-shared-slice-read-with-digit Inv-loop μ-loop
 shared-slice-read-with-digit c = omega arith
 
 with-digit-requires : tie.Need-with-digit-requires Inv-loop μ-loop
-with-digit-requires c κs = sym (c .before .before .is-digit .ensures) ∙ not-false _ (c .before .if1 .left)
+with-digit-requires c κs =
+    let after-is-digit = c .before .before in
+    sym (after-is-digit .is-digit .ensures) ∙ not-false _ (c .before .if1 .left)
 
 add-i : tie.Need-add-i Inv-loop μ-loop
 add-i c = omega arith
@@ -47,20 +51,27 @@ loop-less c = omega arith
 
 loop-again : tie.Need-loop-again Inv-loop μ-loop
 loop-again c =
-    let l = c .before .before .before .before .before .before in
-    let t = l .before .before .args .text .now in
-    let i = l .loop .i in
-    let h = c .before .before .before .before .before .loop-test .taken in
-    let e = sym (c .before .before .before .is-digit .ensures) ∙ not-false _ (c .before .before .if1 .left) in (
-      ap (λ (n : ℕ). value n (drop (i + 1) t)) (c .with-digit .ensures) ∙ value-on t i h (l .loop .n) e ∙ l .loop .inv .0,
-      digits-on t i h e ∙ l .loop .inv .1,
+    let at-if1 = c .before .before in
+    let after-is-digit = at-if1 .before in
+    let at-test = after-is-digit .before .before in
+    let at-loop = at-test .before in
+    let at-start = at-loop .before .before in
+    let t = at-start .args .text .now in
+    let i = at-loop .loop .i in
+    let h = at-test .loop-test .taken in
+    let e = sym (after-is-digit .is-digit .ensures) ∙ not-false _ (at-if1 .if1 .left) in (
+      ap (λ (n : ℕ). value n (drop (i + 1) t)) (c .with-digit .ensures) ∙ value-on t i h (at-loop .loop .n) e ∙ at-loop .loop .inv .0,
+      digits-on t i h e ∙ at-loop .loop .inv .1,
     )
 
 returns-2 : tie.Need-returns-2 Inv-loop μ-loop
 returns-2 c =
-    let l = c .before in
-    let t = l .before .before .args .text .now in
-    (value-end t (l .loop .i) (c .loop-test .left) (l .loop .n) ∙ l .loop .inv .0, digits-end t (l .loop .i) (c .loop-test .left) ∙ l .loop .inv .1)
+    let at-loop = c .before in
+    let at-start = at-loop .before .before in
+    let t = at-start .args .text .now in (
+      value-end t (at-loop .loop .i) (c .loop-test .left) (at-loop .loop .n) ∙ at-loop .loop .inv .0,
+      digits-end t (at-loop .loop .i) (c .loop-test .left) ∙ at-loop .loop .inv .1,
+    )
 
 pub number-at-spec : {M : Type 1} → statement M
 number-at-spec =

@@ -1,6 +1,6 @@
--- `replay::print_label` is safe. Assumes nothing.
+-- `replay::print_label` is safe.
 use mir.Facts.{toZ-ofZ}
-use Rattle.replay.proofs.Digits.{as-number}
+use Rattle.lists.proofs.Signed.{as-index}
 use borrow.Author.Needs.{needs}
 use Rattle.replay.proofs.print_label.Statement.{statement}
 use Rattle.replay.proofs.print_label.Tie as tie
@@ -12,7 +12,9 @@ write-all-requires : tie.Need-write-all-requires
 write-all-requires c κs = search needs
 
 cast-print-number : tie.Need-cast-print-number
-cast-print-number c = rw (toZ-ofZ (c .before .fits .n)) (as-number _ (rw (toZ-ofZ (c .before .fits .n)) at (c .if1 .left)) (c .before .fits .n))
+cast-print-number c =
+    let at-fits = c .before in
+    rw (toZ-ofZ (at-fits .fits .n)) (as-index _ (rw (toZ-ofZ (at-fits .fits .n)) at (c .if1 .left)) (at-fits .fits .n))
 
 print-number-requires : tie.Need-print-number-requires
 print-number-requires c κs = search needs

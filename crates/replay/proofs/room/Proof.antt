@@ -1,4 +1,4 @@
--- `replay::room` meets its contract. Assumes nothing.
+-- `replay::room` meets its contract.
 use mathlib.Core.Path.{_≡_, refl, sym}
 use Prim.Native.Nat.{ℕ}
 use lib.ListN.{length, replicate, length-replicate}

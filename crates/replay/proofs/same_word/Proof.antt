@@ -1,4 +1,4 @@
--- `replay::same_word` meets its contract. Assumes nothing.
+-- `replay::same_word` meets its contract.
 use borrow.Author.Needs.{needs}
 use Rattle.replay.specs.Same.{sameWord}
 use Rattle.replay.proofs.same_word.Statement.{statement}

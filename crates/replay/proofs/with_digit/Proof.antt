@@ -1,4 +1,4 @@
--- `replay::with_digit` meets its contract. Assumes nothing.
+-- `replay::with_digit` meets its contract.
 use native.Mathlib.Omega.{arith}
 use Rattle.replay.proofs.Digits.{digit-range, digit-fits, digit-over}
 use borrow.Author.Needs.{needs}
@@ -15,13 +15,22 @@ mul-result : tie.Need-mul-result
 mul-result c = search needs
 
 add-result : tie.Need-add-result
-add-result c = let r = digit-range (c .before .args .b) (c .before .pre) in omega arith
+add-result c =
+    let at-start = c .before in
+    let r = digit-range (at-start .args .b) (at-start .pre) in
+    omega arith
 
 returns : tie.Need-returns
-returns c = let r = digit-range (c .before .args .b) (c .before .pre) in digit-fits (c .before .args .n) (c .before .args .b) (omega arith)
+returns c =
+    let at-start = c .before in
+    let args = at-start .args in
+    let r = digit-range (args .b) (at-start .pre) in
+    digit-fits (args .n) (args .b) (omega arith)
 
 returns-2 : tie.Need-returns-2
-returns-2 c = digit-over (c .before .before .args .n) (c .before .before .args .b) (omega arith)
+returns-2 c =
+    let at-start = c .before .before in
+    digit-over (at-start .args .n) (at-start .args .b) (omega arith)
 
 mul-result-2 : tie.Need-mul-result-2
 mul-result-2 c = search needs
@@ -30,10 +39,14 @@ add-result-2 : tie.Need-add-result-2
 add-result-2 c = search needs
 
 returns-3 : tie.Need-returns-3
-returns-3 c = digit-fits (c .before .before .before .args .n) (c .before .before .before .args .b) (omega arith)
+returns-3 c =
+    let at-start = c .before .before .before in
+    digit-fits (at-start .args .n) (at-start .args .b) (omega arith)
 
 returns-4 : tie.Need-returns-4
-returns-4 c = digit-over (c .before .before .before .args .n) (c .before .before .before .args .b) (omega arith)
+returns-4 c =
+    let at-start = c .before .before .before in
+    digit-over (at-start .args .n) (at-start .args .b) (omega arith)
 
 pub with-digit-spec : {M : Type 1} → statement M
 with-digit-spec =

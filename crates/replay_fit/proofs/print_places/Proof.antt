@@ -1,4 +1,4 @@
--- `replay_fit::print_places` is safe and ends. Assumes nothing.
+-- `replay_fit::print_places` is safe and ends.
 use Prim.Native.Nat.{_≤_, _-_}
 use borrow.Author.Needs.{needs}
 use Rattle.replay_fit.proofs.print_places.Statement.{statement}

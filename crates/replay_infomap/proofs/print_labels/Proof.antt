@@ -1,4 +1,4 @@
--- `replay_infomap::print_labels` is safe and ends. Assumes nothing.
+-- `replay_infomap::print_labels` is safe and ends.
 use Prim.Native.Nat.{_≤_, _-_}
 use native.Mathlib.Omega.{arith}
 use lib.ListN.{length}
@@ -25,7 +25,9 @@ shared-slice-read-print-number : tie.Need-shared-slice-read-print-number Inv-loo
 shared-slice-read-print-number c = search needs
 
 cast-print-number : tie.Need-cast-print-number Inv-loop μ-loop
-cast-print-number c = omega (arith, c .shared-slice-known2 .given (c .before .before .before .loop .i))
+cast-print-number c =
+    let at-loop = c .before .before .before in
+    omega (arith, c .shared-slice-known2 .given (at-loop .loop .i))
 
 print-number-requires : tie.Need-print-number-requires Inv-loop μ-loop
 print-number-requires c κs = search needs

@@ -1,4 +1,4 @@
--- `replay_infomap::read_links` is safe and ends. Each turn leaves one link fewer. Assumes nothing.
+-- `replay_infomap::read_links` is safe and ends. Each turn leaves one link fewer.
 use mathlib.Core.Path.{_≡_, refl, _∙_}
 use lib.ListN.{length}
 use borrow.Author.Needs.{needs}
@@ -40,10 +40,10 @@ loop-less c = search needs
 
 loop-again : tie.Need-loop-again Inv-loop μ-loop
 loop-again c =
-    let c6 = c .before .before .before .before .before .before in
-    let c6 = c6 in
-    let c13 = c6 .before .before .before .before .before .before .before in
-    c .before .before .put2 .kept .0 ∙ c6 .put .kept .0 ∙ c13 .loop .inv
+    let after-put2 = c .before .before in
+    let after-put = after-put2 .before .before .before .before in
+    let at-loop = after-put .before .before .before .before .before .before .before in
+    after-put2 .put2 .kept .0 ∙ after-put .put .kept .0 ∙ at-loop .loop .inv
 
 same-length : tie.Need-same-length Inv-loop μ-loop
 same-length c = c .before .loop .inv

@@ -1,4 +1,4 @@
--- `replay_neighbors::cell` is safe: its index fits. Assumes nothing.
+-- `replay_neighbors::cell` is safe: its index fits.
 use native.Mathlib.Omega.{arith}
 use Rattle.replay_neighbors.proofs.Few.{few}
 use borrow.Author.Needs.{needs}
@@ -15,10 +15,14 @@ returns-3 : tie.Need-returns-3
 returns-3 c = search needs
 
 mul-float-at : tie.Need-mul-float-at
-mul-float-at c = omega (arith, few (c .before .before .before .before .args .u) (c .before .before .before .before .args .k) (omega arith) (omega arith))
+mul-float-at c =
+    let at-start = c .before .before .before .before in
+    omega (arith, few (at-start .args .u) (at-start .args .k) (omega arith) (omega arith))
 
 add-float-at : tie.Need-add-float-at
-add-float-at c = omega (arith, few (c .before .before .before .before .args .u) (c .before .before .before .before .args .k) (omega arith) (omega arith))
+add-float-at c =
+    let at-start = c .before .before .before .before in
+    omega (arith, few (at-start .args .u) (at-start .args .k) (omega arith) (omega arith))
 
 float-at-requires : tie.Need-float-at-requires
 float-at-requires c κs = search needs

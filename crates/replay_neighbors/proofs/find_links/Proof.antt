@@ -1,4 +1,4 @@
--- `replay_neighbors::find_links` meets its contract: the table has room for all pairs of places. Assumes nothing.
+-- `replay_neighbors::find_links` meets its contract: the table has room for all pairs of places.
 use native.Mathlib.Omega.{arith}
 use lib.ListN.{length}
 use Rattle.replay_neighbors.proofs.Few.{few}
@@ -22,7 +22,9 @@ returns-5 : tie.Need-returns-5
 returns-5 c = search needs
 
 mul-fill-table : tie.Need-mul-fill-table
-mul-fill-table c = omega (arith, few (length (c .before .before .before .before .before .before .before .before .before .before .args .xs .now)) (length (c .before .before .before .before .before .before .before .before .before .before .args .xs .now)) (omega arith) (omega arith))
+mul-fill-table c =
+    let at-start = c .before .before .before .before .before .before .before .before .before .before in
+    omega (arith, few (length (at-start .args .xs .now)) (length (at-start .args .xs .now)) (omega arith) (omega arith))
 
 sub-fill-table : tie.Need-sub-fill-table
 sub-fill-table c = search needs
@@ -31,13 +33,17 @@ part-fill-table-start : tie.Need-part-fill-table-start
 part-fill-table-start c = search needs
 
 part-fill-table-end : tie.Need-part-fill-table-end
-part-fill-table-end c = omega (arith, few (length (c .before .before .before .before .before .before .before .before .before .before .args .xs .now)) (length (c .before .before .before .before .before .before .before .before .before .before .args .xs .now)) (omega arith) (omega arith))
+part-fill-table-end c =
+    let at-start = c .before .before .before .before .before .before .before .before .before .before in
+    omega (arith, few (length (at-start .args .xs .now)) (length (at-start .args .xs .now)) (omega arith) (omega arith))
 
 fill-table-requires : tie.Need-fill-table-requires
 fill-table-requires c κs = search needs
 
 find-nodes-requires : tie.Need-find-nodes-requires
-find-nodes-requires c κs = (omega arith, omega (arith, few (length (c .before .before .before .before .before .before .before .before .before .before .before .before .before .before .before .before .args .xs .now)) (length (c .before .before .before .before .before .before .before .before .before .before .before .before .before .before .before .before .args .xs .now)) (omega arith) (omega arith)), omega arith)
+find-nodes-requires c κs =
+    let at-start = c .before .before .before .before .before .before .before .before .before .before .before .before .before .before .before .before in
+    (omega arith, omega (arith, few (length (at-start .args .xs .now)) (length (at-start .args .xs .now)) (omega arith) (omega arith)), omega arith)
 
 same-length : tie.Need-same-length
 same-length c = search needs

@@ -1,4 +1,4 @@
--- `replay_neighbors::print_places` is safe and ends: each turn leaves one place fewer. Assumes nothing.
+-- `replay_neighbors::print_places` is safe and ends: each turn leaves one place fewer.
 use Prim.Native.Nat.{_≤_, _-_}
 use lib.ListN.{length}
 use borrow.Author.Needs.{needs}

@@ -1,4 +1,4 @@
--- `replay_neighbors::read_medians` is safe and ends: each turn leaves one median fewer, and the slices keep their lengths. Assumes nothing.
+-- `replay_neighbors::read_medians` is safe and ends: each turn leaves one median fewer, and the slices keep their lengths.
 use mathlib.Core.Path.{_≡_}
 use Prim.Native.Nat.{_-_}
 use lib.ListN.{length}

@@ -1,4 +1,4 @@
--- `replay_parse::all_cases` is safe and ends. Assumes nothing.
+-- `replay_parse::all_cases` is safe and ends.
 use Prim.Native.Nat.{_≤_}
 use native.Mathlib.Omega.{arith}
 use borrow.Author.Needs.{needs}

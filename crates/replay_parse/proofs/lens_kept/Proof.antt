@@ -1,4 +1,4 @@
--- `replay_parse::lens_kept` is safe and ends. Assumes nothing.
+-- `replay_parse::lens_kept` is safe and ends.
 use Prim.Native.Nat.{_≤_, _-_}
 use lib.ListN.{length}
 use borrow.Author.Needs.{needs}

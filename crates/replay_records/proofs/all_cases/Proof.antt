@@ -1,4 +1,4 @@
--- `replay_records::all_cases` is safe and ends. Assumes nothing.
+-- `replay_records::all_cases` is safe and ends.
 use Prim.Native.Nat.{_≤_}
 use native.Mathlib.Omega.{arith}
 use borrow.Author.Needs.{needs}

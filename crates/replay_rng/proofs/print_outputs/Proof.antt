@@ -1,4 +1,4 @@
--- `replay_rng::print_outputs` is safe and ends. Each turn leaves one output fewer. Assumes nothing.
+-- `replay_rng::print_outputs` is safe and ends. Each turn leaves one output fewer.
 use Prim.Native.Nat.{_≤_}
 use borrow.Author.Needs.{needs}
 use Rattle.replay_rng.proofs.print_outputs.Statement.{statement}

@@ -1,4 +1,4 @@
--- `replay_visits::count_up` is safe and ends. Assumes nothing.
+-- `replay_visits::count_up` is safe and ends.
 use mathlib.Core.Path.{_≡_}
 use Prim.Native.Nat.{_≤_, _-_}
 use native.Mathlib.Omega.{arith}

@@ -1,4 +1,4 @@
--- `replay_visits::print_words` is safe and ends. Assumes nothing.
+-- `replay_visits::print_words` is safe and ends.
 use Prim.Native.Nat.{_≤_, _-_}
 use borrow.Author.Needs.{needs}
 use Rattle.replay_visits.proofs.print_words.Statement.{statement}

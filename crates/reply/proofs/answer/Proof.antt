@@ -16,23 +16,28 @@ enum-known-p-2 c = search needs
 
 fit-text-requires : tie.Need-fit-text-requires
 fit-text-requires c κs =
-    let t = c .before .before .before .before .before .before .before .before .before .before .pre in
-    let g = tracks-text (t .0) _ _ _ _ _ _ (t .1) _ (c .before .before .p2 .given .1) in
-    (g .few-fixes, g .xs-room, g .ys-room, g .times-room, g .marks-room, g .lens-room)
+    let at-p2 = c .before .before in
+    let at-start = at-p2 .before .before .before .before .before .before .before .before in
+    let t = at-start .pre in
+    tracks-text (t .1) _ (at-p2 .p2 .given .1) .room
 
 same-length : tie.Need-same-length
 same-length c = search needs
 
 returns : tie.Need-returns
-returns c t f =
-    writes-as (sym (refused-text t _ _ _ _ _ _ f _ (c .before .before .before .before .before .p .given .1))) (c .before .before .print-refusal .ensures)
+returns c =
+    let after-print-refusal = c .before .before in
+    let at-p = after-print-refusal .before .before .before in
+    record { writes = λ f. writes-as (sym (refused-text f _ (at-p .p .given .1))) (after-print-refusal .print-refusal .ensures) }
 
 same-length-2 : tie.Need-same-length-2
 same-length-2 c = search needs
 
 returns-2 : tie.Need-returns-2
-returns-2 c t f =
-    writes-as (program-is t _ _ _ _ _ _ f _ (c .before .before .before .before .before .p2 .given .1)) (c .before .before .fit-text .ensures)
+returns-2 c =
+    let after-fit-text = c .before .before in
+    let at-p2 = after-fit-text .before .before .before in
+    record { writes = λ f. writes-as (program-is f _ (at-p2 .p2 .given .1)) (after-fit-text .fit-text .ensures) }
 
 pub answer-spec : {M : Type 1} → statement M
 answer-spec =

@@ -80,7 +80,9 @@ part-print-labels-start : tie.Need-part-print-labels-start
 part-print-labels-start c = search needs
 
 part-print-labels-end : tie.Need-part-print-labels-end
-part-print-labels-end c = c .before .before .before .before .before .before .before .before .before .before .before .before .before .before .before .before .before .before .before .before .before .before .pre .5
+part-print-labels-end c =
+    let at-start = c .before .before .before .before .before .before .before .before .before .before .before .before .before .before .before .before .before .before .before .before .before .before in
+    at-start .pre .lens-room
 
 sub-print-labels-2 : tie.Need-sub-print-labels-2
 sub-print-labels-2 c = search needs
@@ -89,7 +91,11 @@ part-print-labels-start-2 : tie.Need-part-print-labels-start-2
 part-print-labels-start-2 c = search needs
 
 part-print-labels-end-2 : tie.Need-part-print-labels-end-2
-part-print-labels-end-2 c = labels-room (c .before .before .before .before .before .before .before .before .before .before .before .before .before .before .before .before .before .before .before .before .before .before .before .before .args .input .fixes) (c .before .before .before .before .before .before .before .fit-predict-many .last .1 .1 .1 .1 .1 .1 .0) (c .before .before .before .before .before .before .before .before .before .before .before .before .before .before .before .before .before .before .before .before .before .before .before .before .pre .0) (c .before .before .before .before .before .before .before .fit-predict-many .kept .1 .1 .1 .1 .1 .1 .0)
+part-print-labels-end-2 c =
+    let after-fit-predict-many = c .before .before .before .before .before .before .before in
+    let at-start = after-fit-predict-many .before .before .before .before .before .before .before .before .before .before .before .before .before .before .before .before .before in
+    labels-room (at-start .args .input .fixes) (after-fit-predict-many .fit-predict-many .last .1 .1 .1 .1 .1 .1 .0) (at-start .pre .few-fixes)
+    (after-fit-predict-many .fit-predict-many .kept .1 .1 .1 .1 .1 .1 .0)
 
 print-labels-requires : tie.Need-print-labels-requires
 print-labels-requires c κs = search needs
@@ -105,16 +111,33 @@ same-length c = search needs
 
 returns : tie.Need-returns
 returns c =
-    let a = c .before .before .before .before .before .before .before .before .before .before .before .before .before .before .before .before .before .before .before .before .before .before .before .before .before .before .before .before .before .args in
-    labelled-writes (a .input) (a .xs .now) (a .ys .now) (a .times .now) (a .marks .now) (a .lens .now) (c .before .before .before .before .before .before .before .before .before .before .before .before .before .before .before .before .before .before .before .before .before .before .before .before .before .before .before .before .before .pre .0) (c .before .before .before .before .before .before .before .before .before .before .before .before .before .before .before .before .before .before .before .before .before .before .from-config .result) (c .before .before .before .before .before .before .before .before .before .before .before .before .before .before .before .before .before .before .before .before .before .before .from-config .ensures) (c .before .before .before .before .before .before .before .before .before .before .before .before .fit-predict-many .result) (c .before .before .before .before .before .before .before .before .before .before .before .before .fit-predict-many .last .1 .1 .1 .1 .1 .1 .0) (c .before .before .before .before .before .before .before .before .before .before .before .before .fit-predict-many .ensures .ended) _ _ _ (c .before .before .before .before .before .before .before .before .before .before .before .before .fit-predict-many .kept .1 .1 .1 .1 .1 .1 .0) _ _ (c .before .before .before .before .before .before .before .enum-told .given .1) (c .before .before .print-labels .ensures)
+    let after-print-labels = c .before .before in
+    let at-match = after-print-labels .before .before .before .before .before in
+    let after-fit-predict-many = at-match .before .before .before .before .before in
+    let after-from-config = after-fit-predict-many .before .before .before .before .before .before .before .before .before .before in
+    let at-start = after-from-config .before .before .before .before .before .before .before in
+    let a = at-start .args in
+    labelled-writes (a .input) (a .xs .now) (a .ys .now) (a .times .now) (a .marks .now) (a .lens .now) (at-start .pre .few-fixes)
+    (after-from-config .from-config .result) (after-from-config .from-config .ensures) (after-fit-predict-many .fit-predict-many .result)
+    (after-fit-predict-many .fit-predict-many .last .1 .1 .1 .1 .1 .1 .0) (after-fit-predict-many .fit-predict-many .ensures .ended) _ _ _
+    (after-fit-predict-many .fit-predict-many .kept .1 .1 .1 .1 .1 .1 .0) _ _ (at-match .enum-told .given .1)
+    (after-print-labels .print-labels .ensures)
 
 same-length-2 : tie.Need-same-length-2
 same-length-2 c = search needs
 
 returns-2 : tie.Need-returns-2
 returns-2 c =
-    let a = c .before .before .before .before .before .before .before .before .before .before .before .before .before .before .before .before .before .before .before .before .before .before .before .before .before .before .before .args in
-    refused-writes (a .input) (a .xs .now) (a .ys .now) (a .times .now) (a .marks .now) (a .lens .now) (c .before .before .before .before .before .before .before .before .before .before .before .before .before .before .before .before .before .before .before .before .before .before .before .before .before .before .before .pre .0) (c .before .before .before .before .before .before .before .before .before .before .before .before .before .before .before .before .before .before .before .before .from-config .result) (c .before .before .before .before .before .before .before .before .before .before .before .before .before .before .before .before .before .before .before .before .from-config .ensures) (c .before .before .before .before .before .before .before .before .before .before .fit-predict-many .result) (c .before .before .before .before .before .before .before .before .before .before .fit-predict-many .last .1 .1 .1 .1 .1 .1 .0) (c .before .before .before .before .before .before .before .before .before .before .fit-predict-many .ensures .ended) _ _ _ _ (c .before .before .before .before .before .a .given .1) (c .before .before .print-refusal .ensures)
+    let after-print-refusal = c .before .before in
+    let at-a = after-print-refusal .before .before .before in
+    let after-fit-predict-many = at-a .before .before .before .before .before in
+    let after-from-config = after-fit-predict-many .before .before .before .before .before .before .before .before .before .before in
+    let at-start = after-from-config .before .before .before .before .before .before .before in
+    let a = at-start .args in
+    refused-writes (a .input) (a .xs .now) (a .ys .now) (a .times .now) (a .marks .now) (a .lens .now) (at-start .pre .few-fixes)
+    (after-from-config .from-config .result) (after-from-config .from-config .ensures) (after-fit-predict-many .fit-predict-many .result)
+    (after-fit-predict-many .fit-predict-many .last .1 .1 .1 .1 .1 .1 .0) (after-fit-predict-many .fit-predict-many .ensures .ended) _ _ _ _
+    (at-a .a .given .1) (after-print-refusal .print-refusal .ensures)
 
 pub fit-text-spec : {M : Type 1} → statement M
 fit-text-spec =

@@ -1,5 +1,4 @@
 -- `reply::reply` meets its contract.
-use Rattle.reply.proofs.Columns.{from-text}
 use borrow.Author.Needs.{needs}
 use Rattle.reply.proofs.reply.Statement.{statement}
 use Rattle.reply.proofs.reply.Tie as tie
@@ -44,13 +43,24 @@ slice-aggregate-answer-5 : tie.Need-slice-aggregate-answer-5
 slice-aggregate-answer-5 c = search needs
 
 answer-requires : tie.Need-answer-requires
-answer-requires c κs = (c .before .before .before .before .before .before .before .before .before .before .before .before .before .before .before .before .before .before .before .before .before .args .text .now, from-text _ (c .before .before .before .before .before .before .before .before .before .before .before .before .before .before .before .before .before .before .start .ensures) (c .before .before .before .before .before .before .before .before .before .before .before .before .feed .ensures) (c .before .before .before .before .before .before .finish .ensures))
+answer-requires c κs =
+    let after-finish = c .before .before .before .before .before .before in
+    let after-feed = after-finish .before .before .before .before .before .before in
+    let after-start = after-feed .before .before .before .before .before .before in
+    let at-start = after-start .before .before .before in
+    (at-start .args .text .now, after-finish .finish .ensures .end (after-feed .feed .ensures .more (after-start .start .ensures .start _)))
 
 same-length : tie.Need-same-length
 same-length c = search needs
 
 returns : tie.Need-returns
-returns c = c .before .before .answer .ensures _ (from-text _ (c .before .before .before .before .before .before .before .before .before .before .before .before .before .before .before .before .before .before .before .before .before .start .ensures) (c .before .before .before .before .before .before .before .before .before .before .before .before .before .before .before .feed .ensures) (c .before .before .before .before .before .before .before .before .before .finish .ensures))
+returns c =
+    let after-answer = c .before .before in
+    let after-finish = after-answer .before .before .before .before .before .before .before in
+    let after-feed = after-finish .before .before .before .before .before .before in
+    let after-start = after-feed .before .before .before .before .before .before in
+    after-answer .answer .ensures .writes
+    (after-finish .finish .ensures .end (after-feed .feed .ensures .more (after-start .start .ensures .start _)))
 
 pub reply-spec : {M : Type 1} → statement M
 reply-spec =

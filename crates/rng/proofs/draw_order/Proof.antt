@@ -1,4 +1,4 @@
--- `rng::draw_order` meets its contract. Assumes nothing.
+-- `rng::draw_order` meets its contract.
 use mathlib.Core.Path.{sym, _∙_, ap}
 use mathlib.Core.List.{List}
 use Prim.Native.Nat.{ℕ}
@@ -18,10 +18,10 @@ same-length c = search needs
 
 returns : tie.Need-returns
 returns c =
-    let c6 = c .before .before .before .before .before .before in
-    let c6 = c6 in
-    let c9 = c6 .before .before .before in
-    sym (ap (λ (l : List ℕ). shuffle (c9 .args .rng) l) (c6 .fill .ensures)) ∙ c .before .before .shuffle .ensures
+    let after-shuffle = c .before .before in
+    let after-fill = after-shuffle .before .before .before .before in
+    let at-start = after-fill .before .before .before in
+    sym (ap (λ (l : List ℕ). shuffle (at-start .args .rng) l) (after-fill .fill .ensures)) ∙ after-shuffle .shuffle .ensures
 
 pub draw-order-spec : {M : Type 1} → statement M
 draw-order-spec = tie.close (tie.spec fill-requires shuffle-requires same-length returns)

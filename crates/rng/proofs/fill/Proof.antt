@@ -1,9 +1,9 @@
--- `rng::fill` meets its contract. The loop has written the numbers below i. Assumes nothing.
+-- `rng::fill` meets its contract. The loop has written the numbers below i.
 use mathlib.Core.Path.{_≡_, refl}
 use native.Mathlib.Omega.{arith}
 use Prim.Native.Nat.{ℕ, _-_, _≤_, _<_}
 use lib.ListN.{length, getD, length-set}
-use Rattle.rng.proofs.Stores.{stored-below}
+use Rattle.lists.proofs.Stores.{stored-below}
 use Rattle.lists.proofs.Upto.{is-upto}
 use borrow.Author.Needs.{needs}
 use Rattle.rng.proofs.fill.Statement.{statement}
@@ -34,13 +34,20 @@ loop-less : tie.Need-loop-less Inv-loop μ-loop
 loop-less c = search needs
 
 loop-again : tie.Need-loop-again Inv-loop μ-loop
-loop-again c = (stored-below _ (c .before .loop .s) (c .before .loop .i) _ (c .loop-test .taken) (λ k. k) (c .before .loop .inv .0) refl, simp length-set (omega arith), omega arith)
+loop-again c =
+    let at-loop = c .before in (
+      stored-below _ (at-loop .loop .s) (at-loop .loop .i) _ (c .loop-test .taken) (λ k. k) (at-loop .loop .inv .0) refl,
+      simp length-set (omega arith),
+      omega arith,
+    )
 
 same-length : tie.Need-same-length Inv-loop μ-loop
 same-length c = c .before .loop .inv .1
 
 returns : tie.Need-returns Inv-loop μ-loop
-returns c = is-upto _ _ (c .before .loop .inv .1) (λ k h. c .before .loop .inv .0 k (omega arith))
+returns c =
+    let at-loop = c .before in
+    is-upto _ _ (at-loop .loop .inv .1) (λ k h. at-loop .loop .inv .0 k (omega arith))
 
 pub fill-spec : {M : Type 1} → statement M
 fill-spec =

@@ -1,4 +1,4 @@
--- `rng::next_u64` meets its contract. Assumes nothing.
+-- `rng::next_u64` meets its contract.
 use mathlib.Core.Path.{refl}
 use Rattle.rng.specs.Rng.{nextU64}
 use Rattle.rng.proofs.next_u64.Statement.{statement}

@@ -1,4 +1,4 @@
--- `rng::shuffle` meets its contract. The loop has still to swap the items below i: the whole shuffle is what is left of it. Assumes nothing.
+-- `rng::shuffle` meets its contract. The loop has still to swap the items below i: the whole shuffle is what is left of it.
 use mathlib.Core.Path.{_≡_, refl, sym, _∙_}
 use native.Mathlib.Omega.{arith}
 use native.Mathlib.Nat.{mod-lt}
@@ -34,8 +34,10 @@ gen-range-requires c κs = search needs
 
 swap-requires : tie.Need-swap-requires Inv-loop μ-loop
 swap-requires c κs =
-    let l = c .before .before .before .before .loop in
-    let b : c .gen-range .result < l .i - 1 + 1 = rw (c .gen-range .ensures) (mod-lt (c .before .before .next-u64 .result) (omega arith)) in
+    let after-next-u64 = c .before .before in
+    let at-loop = after-next-u64 .before .before in
+    let l = at-loop .loop in
+    let b : c .gen-range .result < l .i - 1 + 1 = rw (c .gen-range .ensures) (mod-lt (after-next-u64 .next-u64 .result) (omega arith)) in
     (omega arith, omega arith)
 
 loop-less : tie.Need-loop-less Inv-loop μ-loop
@@ -43,11 +45,17 @@ loop-less c = search needs
 
 loop-again : tie.Need-loop-again Inv-loop μ-loop
 loop-again c =
-    let c5 = c .before .before .before .before .before in
-    let c5 = c5 in
-    let c7 = c5 .before .before in
-    let l = c7 .loop in
-    (l .inv .0 ∙ sym (shuffle-on (l .i - 1) (l .x) (l .s) (omega arith) (c5 .next-u64 .ensures) (c .before .before .before .gen-range .ensures) (c .before .before .swap .ensures)), omega (arith, c .before .before .swap .kept .0), omega arith)
+    let after-swap = c .before .before in
+    let after-gen-range = after-swap .before in
+    let after-next-u64 = after-gen-range .before .before in
+    let at-loop = after-next-u64 .before .before in
+    let l = at-loop .loop in (
+      l .inv .0 ∙ sym
+          (shuffle-on (l .i - 1) (l .x) (l .s) (omega arith) (after-next-u64 .next-u64 .ensures) (after-gen-range .gen-range .ensures)
+          (after-swap .swap .ensures)),
+      omega (arith, after-swap .swap .kept .0),
+      omega arith,
+    )
 
 same-length : tie.Need-same-length Inv-loop μ-loop
 same-length c = c .before .loop .inv .1

@@ -1,4 +1,4 @@
--- `rng::swap` meets its contract. Assumes nothing.
+-- `rng::swap` meets its contract.
 use mathlib.Core.Path.{refl}
 use Rattle.rng.specs.Rng.{swap}
 use borrow.Author.Needs.{needs}

@@ -1,5 +1,6 @@
--- `scan::best_delta` meets its contract. Assumes nothing.
-use Rattle.scan.specs.Scan.{bestDelta, answerOf}
+-- `scan::best_delta` meets its contract.
+use Rattle.scan.specs.Scan.{bestDelta}
+use Rattle.scan.specs.Steps.{answerOf}
 use borrow.Author.Needs.{needs}
 use Rattle.scan.proofs.best_delta.Statement.{statement}
 use Rattle.scan.proofs.best_delta.Tie as tie

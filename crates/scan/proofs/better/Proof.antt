@@ -1,6 +1,7 @@
--- `scan::better` meets its contract. Assumes nothing.
+-- `scan::better` meets its contract.
 use mathlib.Core.Path.{sym}
-use Rattle.scan.specs.Scan.{better, answerOf}
+use Rattle.scan.specs.Scan.{better}
+use Rattle.scan.specs.Steps.{answerOf}
 use borrow.Author.Needs.{needs}
 use Rattle.scan.proofs.better.Statement.{statement}
 use Rattle.scan.proofs.better.Tie as tie

@@ -1,12 +1,12 @@
--- `scan::consider` meets its contract. Assumes nothing.
+-- `scan::consider` meets its contract.
 use mathlib.Core.Path.{_≡_, sym}
 use borrow.Author.Tests.{eq-eqb, ne-eqb}
 use lib.ListN.{getD}
-use Rattle.map_state.specs.Arrays.{netOf, stateOf}
+use Rattle.map_state.specs.Steps.{netOf, stateOf}
 use Rattle.map_state.specs.MapState.{deltaMove}
 use Rattle.scan.specs.Scan.{consider}
 use Rattle.map_state.proofs.Leaders.{rowed, stats-some, stats-few}
-use Rattle.scan.proofs.Rising.{delta-move-is}
+use Rattle.scan.proofs.Candidates.{delta-move-is}
 use borrow.Author.Needs.{needs}
 use Rattle.scan.proofs.consider.Statement.{statement}
 use Rattle.scan.proofs.consider.Tie as tie
@@ -32,12 +32,12 @@ own-stats-requires c κs = search needs
 
 delta-move-requires : tie.Need-delta-move-requires
 delta-move-requires c κs =
-    let c10 = c .before .before .before .before .before .before .before .before .before .before in
-    let c10 = c10 in
-    let a = c10 .args in (
-      rowed (a .table .now) (a .stride) (a .strength .now) (a .partition .now) (a .first .now) (a .exits .now) (a .strengths .now) (a .u) (c10 .pre .0) (c10 .pre .1),
-      stats-some (a .partition .now) (a .exits .now) (a .strengths .now) (a .u) (c10 .pre .1) (c10 .pre .4),
-      stats-few (a .partition .now) (a .exits .now) (a .strengths .now) _ (c10 .pre .0 .few) (c .own-stats .ensures),
+    let at-start = c .before .before .before .before .before .before .before .before .before .before in
+    let a = at-start .args in (
+      rowed (a .table .now) (a .stride) (a .strength .now) (a .partition .now) (a .first .now) (a .exits .now) (a .strengths .now) (a .u)
+          (at-start .pre .0) (at-start .pre .1),
+      stats-some (a .partition .now) (a .exits .now) (a .strengths .now) (a .u) (at-start .pre .1) (at-start .pre .4),
+      stats-few (a .partition .now) (a .exits .now) (a .strengths .now) _ (at-start .pre .0 .few) (c .own-stats .ensures),
     )
 
 better-requires : tie.Need-better-requires
@@ -46,11 +46,17 @@ better-requires c κs = search needs
 returns-2 : tie.Need-returns-2
 unfolding consider
 returns-2 c =
-    let c12 = c .before .before .before .before .before .before .before .before .before .before .before .before in
-    let c12 = c12 in
-    let a = c12 .args in
-    let e : c .before .delta-move .result ≡ deltaMove (netOf (a .table .now) (a .stride) (a .strength .now) (a .d)) (stateOf (a .partition .now) (a .exits .now) (a .strengths .now) (a .q)) (a .u) (getD (a .partition .now) (a .v) 0) = delta-move-is (netOf (a .table .now) (a .stride) (a .strength .now) (a .d)) (stateOf (a .partition .now) (a .exits .now) (a .strengths .now) (a .q)) (a .u) _ (c .before .delta-move .ensures) (c12 .pre .4) (c .before .before .own-stats .ensures) in
-    rw (ne-eqb _ _ (c .before .before .before .if1 .left), sym e) (c .better .ensures)
+    let after-delta-move = c .before in
+    let after-own-stats = after-delta-move .before in
+    let at-if1 = after-own-stats .before in
+    let at-start = at-if1 .before .before .before .before .before .before .before .before .before in
+    let a = at-start .args in
+    let net = netOf (a .table .now) (a .stride) (a .strength .now) (a .d) in
+    let e : after-delta-move .delta-move .result ≡ deltaMove net
+    (stateOf (a .partition .now) (a .exits .now) (a .strengths .now) (a .q)) (a .u) (getD (a .partition .now) (a .v) 0) = delta-move-is
+    net (stateOf (a .partition .now) (a .exits .now) (a .strengths .now) (a .q)) (a .u) _
+    (after-delta-move .delta-move .ensures) (at-start .pre .4) (after-own-stats .own-stats .ensures) in
+    rw (ne-eqb _ _ (at-if1 .if1 .left), sym e) (c .better .ensures)
 
 pub consider-spec : {M : Type 1} → statement M
 consider-spec =

@@ -1,4 +1,4 @@
--- `scan::higher` meets its contract. Assumes nothing.
+-- `scan::higher` meets its contract.
 use borrow.Author.Tests.{lt-ltb, le-ltb}
 use Rattle.scan.proofs.higher.Statement.{statement}
 use Rattle.scan.proofs.higher.Tie as tie

@@ -1,9 +1,9 @@
--- `scan::highest` meets its contract. The loop: the highest of the number so far and the groups from v on is the highest of all. Assumes nothing.
+-- `scan::highest` meets its contract. The loop: the highest of the number so far and the groups from v on is the highest of all.
 use mathlib.Core.Path.{_≡_, refl, _∙_}
 use Prim.Native.Nat.{_-_}
 use lib.ListN.{length, drop}
 use Rattle.scan.specs.Scan.{highestFrom}
-use Rattle.scan.proofs.Rising.{highest-on, highest-end}
+use Rattle.scan.proofs.Candidates.{highest-on, highest-end}
 use borrow.Author.Needs.{needs}
 use Rattle.scan.proofs.highest.Statement.{statement}
 use Rattle.scan.proofs.highest.Tie as tie
@@ -33,7 +33,10 @@ loop-less : tie.Need-loop-less Inv-loop μ-loop
 loop-less c = search needs
 
 loop-again : tie.Need-loop-again Inv-loop μ-loop
-loop-again c = highest-on _ _ _ _ (c .before .before .loop-test .taken) (c .higher .ensures) ∙ c .before .before .before .loop .inv
+loop-again c =
+    let at-test = c .before .before in
+    let at-loop = at-test .before in
+    highest-on _ _ _ _ (at-test .loop-test .taken) (c .higher .ensures) ∙ at-loop .loop .inv
 
 returns : tie.Need-returns Inv-loop μ-loop
 returns c = highest-end _ _ _ (c .loop-test .left) ∙ c .before .loop .inv

@@ -1,9 +1,9 @@
--- `scan::next_candidate` meets its contract. The loop has found the lowest candidate among the nodes below v. Assumes nothing.
+-- `scan::next_candidate` meets its contract. The loop has found the lowest candidate among the nodes below v.
 use mathlib.Core.Path.{_≡_}
 use native.Mathlib.Omega.{arith}
 use Prim.Native.Nat.{_-_, _≤_}
 use lib.ListN.{length}
-use Rattle.scan.specs.Scan.{Next}
+use Rattle.scan.specs.Steps.{Next}
 use Rattle.scan.proofs.Floor.{next-start}
 use borrow.Author.Needs.{needs}
 use Rattle.scan.proofs.next_candidate.Statement.{statement}
@@ -19,7 +19,9 @@ loop-holds : tie.Need-loop-holds Inv-loop μ-loop
 loop-holds c = (next-start _ _ _ 0 0, omega arith)
 
 lower-candidate-requires : tie.Need-lower-candidate-requires Inv-loop μ-loop
-lower-candidate-requires c κs = (c .before .before .before .before .pre, c .loop-test .taken, c .before .loop .inv .0)
+lower-candidate-requires c κs =
+    let at-start = c .before .before .before .before in
+    (at-start .pre, c .loop-test .taken, c .before .loop .inv .0)
 
 add-v : tie.Need-add-v Inv-loop μ-loop
 add-v c = search needs
@@ -32,8 +34,10 @@ loop-again c = (c .lower-candidate .ensures, omega arith)
 
 returns : tie.Need-returns Inv-loop μ-loop
 returns c =
-    let e : c .before .loop .v ≡ length (c .before .before .before .before .args .partition .now) = omega arith in
-    rw e at (c .before .loop .inv .0)
+    let at-loop = c .before in
+    let at-start = at-loop .before .before .before in
+    let e : at-loop .loop .v ≡ length (at-start .args .partition .now) = omega arith in
+    rw e at (at-loop .loop .inv .0)
 
 pub next-candidate-spec : {M : Type 1} → statement M
 next-candidate-spec =

@@ -1,7 +1,7 @@
--- `stay::close` meets its contract. Assumes nothing.
+-- `stay::close` meets its contract.
 use mathlib.Core.Path.{_∙_}
 use Rattle.stay.specs.Steps.{closed, stateOf, midOf}
-use Rattle.stay.specs.Regions.{middleIn}
+use Rattle.stay.specs.StepsRegions.{middleIn}
 use borrow.Author.Needs.{needs}
 use Rattle.stay.proofs.close.Statement.{statement}
 use Rattle.stay.proofs.close.Tie as tie
@@ -32,7 +32,12 @@ same-length-2 c = search needs
 
 returns : tie.Need-returns
 unfolding closed stateOf midOf middleIn
-returns c = c .before .before .before .keep .ensures ∙ rw (c .before .before .before .before .is-stay .ensures, c .before .before .before .before .before .before .before .middle .ensures, c .before .before .before .before .before .before .before .before .before .elapsed .ensures)
+returns c =
+    let after-keep = c .before .before .before in
+    let after-is-stay = after-keep .before in
+    let after-middle = after-is-stay .before .before .before in
+    let after-elapsed = after-middle .before .before in
+    after-keep .keep .ensures ∙ rw (after-is-stay .is-stay .ensures, after-middle .middle .ensures, after-elapsed .elapsed .ensures)
 
 pub close-spec : {M : Type 1} → statement M
 close-spec =

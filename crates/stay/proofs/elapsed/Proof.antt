@@ -1,4 +1,4 @@
--- `stay::elapsed` meets its contract. Assumes nothing.
+-- `stay::elapsed` meets its contract.
 use Rattle.stay.specs.Steps.{elapsed}
 use borrow.Author.Needs.{needs}
 use Rattle.stay.proofs.elapsed.Statement.{statement}
@@ -18,7 +18,9 @@ shared-slice-read-result-2 c = search needs
 
 returns : tie.Need-returns
 unfolding elapsed
-returns c = rw (c .before .before .if1 .taken)
+returns c =
+    let at-if1 = c .before .before in
+    rw (at-if1 .if1 .taken)
 
 returns-2 : tie.Need-returns-2
 unfolding elapsed

@@ -1,8 +1,10 @@
--- `stay::insert_both` meets its contract. Assumes nothing.
+-- `stay::insert_both` meets its contract.
 use native.Mathlib.Omega.{arith}
 use native.Mathlib.Nat.{add-sub-cancel-left, sub-zero}
-use Rattle.stay.specs.Regions.{insertBoth, put, insertIn}
-use Rattle.stay.proofs.Regions.{part-length, second-kept}
+use Rattle.stay.specs.StepsRegions.{insertBoth, insertIn}
+use Rattle.lists.specs.StepsParts.{put}
+use Rattle.lists.proofs.Parts.{part-length}
+use Rattle.stay.proofs.Regions.{second-kept}
 use borrow.Author.Needs.{needs}
 use Rattle.stay.proofs.insert_both.Statement.{statement}
 use Rattle.stay.proofs.insert_both.Tie as tie
@@ -21,8 +23,9 @@ part-insert-ordered-end c = search needs
 
 insert-ordered-requires : tie.Need-insert-ordered-requires
 insert-ordered-requires c κs =
-    let a = c .before .before .args in
-    let p = c .before .before .pre in
+    let at-start = c .before .before in
+    let a = at-start .args in
+    let p = at-start .pre in
     rw sub-zero (omega (arith, part-length 0 (a .q) (a .work .now) (omega arith)), p .x-order)
 
 mul-insert-ordered : tie.Need-mul-insert-ordered
@@ -40,9 +43,16 @@ part-insert-ordered-end-2 c = search needs
 insert-ordered-requires-2 : tie.Need-insert-ordered-requires-2
 unfolding put insertIn
 insert-ordered-requires-2 c κs =
-    let a = c .before .before .before .before .before .before .args in
-    let p = c .before .before .before .before .before .before .pre in
-    rw (c .before .before .before .insert-ordered .ensures, add-sub-cancel-left, sub-zero, second-kept (a .q) (a .len) (a .p .x) (a .p .y) (a .work .now) (p .fits) (p .more))
+    let after-insert-ordered = c .before .before .before in
+    let at-start = after-insert-ordered .before .before .before in
+    let a = at-start .args in
+    let p = at-start .pre in
+    rw (
+      after-insert-ordered .insert-ordered .ensures,
+      add-sub-cancel-left,
+      sub-zero,
+      second-kept (a .q) (a .len) (a .p .x) (a .p .y) (a .work .now) (p .fits) (p .more),
+    )
     (omega (arith, part-length (a .q) (a .q) (a .work .now) (p .fits)), p .y-order)
 
 same-length : tie.Need-same-length
@@ -50,7 +60,10 @@ same-length c = search needs
 
 returns : tie.Need-returns
 unfolding insertBoth put insertIn
-returns c = rw (c .before .before .insert-ordered2 .ensures, c .before .before .before .before .before .before .insert-ordered .ensures, add-sub-cancel-left, sub-zero)
+returns c =
+    let after-insert-ordered2 = c .before .before in
+    let after-insert-ordered = after-insert-ordered2 .before .before .before .before in
+    rw (after-insert-ordered2 .insert-ordered2 .ensures, after-insert-ordered .insert-ordered .ensures, add-sub-cancel-left, sub-zero)
 
 pub insert-both-spec : {M : Type 1} → statement M
 insert-both-spec =

@@ -1,4 +1,4 @@
--- `stay::insert_ordered` meets its contract. Assumes nothing.
+-- `stay::insert_ordered` meets its contract.
 use Prim.Native.Nat.{_+_}
 use native.Mathlib.Omega.{arith}
 use native.Mathlib.Nat.{sub-zero}
@@ -8,17 +8,19 @@ use borrow.Author.Needs.{needs}
 use Rattle.stay.proofs.insert_ordered.Statement.{statement}
 use Rattle.stay.proofs.insert_ordered.Tie as tie
 
-sub-position : tie.Need-sub-position
-sub-position c = search needs
+sub-insertion-point : tie.Need-sub-insertion-point
+sub-insertion-point c = search needs
 
-part-position-start : tie.Need-part-position-start
-part-position-start c = search needs
+part-insertion-point-start : tie.Need-part-insertion-point-start
+part-insertion-point-start c = search needs
 
-part-position-end : tie.Need-part-position-end
-part-position-end c = search needs
+part-insertion-point-end : tie.Need-part-insertion-point-end
+part-insertion-point-end c = search needs
 
-position-requires : tie.Need-position-requires
-position-requires c κs = rw sub-zero (c .before .before .before .pre .1)
+insertion-point-requires : tie.Need-insertion-point-requires
+insertion-point-requires c κs =
+    let at-start = c .before .before .before in
+    rw sub-zero (at-start .pre .1)
 
 add-e : tie.Need-add-e
 add-e c = search needs
@@ -34,26 +36,36 @@ part-shift-in-end c = search needs
 
 shift-in-requires : tie.Need-shift-in-requires
 shift-in-requires c κs =
-    let a = c .before .before .before .before .before .args in
+    let at-start = c .before .before .before .before .before in
+    let a = at-start .args in
     rw (sub-zero, length-take-le (a .len + 1) (a .arr .now) (omega arith))
-    (omega (arith, rw sub-zero at (c .before .position .ensures), position-in (a .arr .now) (a .len) (a .elem) (c .before .before .before .before .before .pre .0)))
+    (omega (arith, rw sub-zero at (c .before .insertion-point .ensures), position-in (a .arr .now) (a .len) (a .elem) (at-start .pre .0)))
 
 same-length : tie.Need-same-length
 same-length c = search needs
 
 returns : tie.Need-returns
 returns c =
-    let a = c .before .before .before .before .before .before .before .before .args in
-    rw (c .before .before .shift-in .ensures, c .before .before .before .before .position .ensures, sub-zero (a .len), sub-zero (a .len + 1), inserted (a .arr .now) (a .len) (a .elem) (c .before .before .before .before .before .before .before .before .pre .0))
+    let after-shift-in = c .before .before in
+    let after-insertion-point = after-shift-in .before .before in
+    let at-start = after-insertion-point .before .before .before .before in
+    let a = at-start .args in
+    rw (
+      after-shift-in .shift-in .ensures,
+      after-insertion-point .insertion-point .ensures,
+      sub-zero (a .len),
+      sub-zero (a .len + 1),
+      inserted (a .arr .now) (a .len) (a .elem) (at-start .pre .0),
+    )
 
 pub insert-ordered-spec : {M : Type 1} → statement M
 insert-ordered-spec =
     tie.close
     (tie.spec
-    sub-position
-    part-position-start
-    part-position-end
-    position-requires
+    sub-insertion-point
+    part-insertion-point-start
+    part-insertion-point-end
+    insertion-point-requires
     add-e
     sub-shift-in
     part-shift-in-start

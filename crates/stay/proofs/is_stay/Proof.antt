@@ -1,4 +1,4 @@
--- `stay::is_stay` meets its contract. Assumes nothing.
+-- `stay::is_stay` meets its contract.
 use borrow.Author.Tests.{le-leb, lt-leb}
 use Rattle.stay.specs.Steps.{stayTest}
 use Rattle.stay.proofs.is_stay.Statement.{statement}
@@ -6,7 +6,9 @@ use Rattle.stay.proofs.is_stay.Tie as tie
 
 returns : tie.Need-returns
 unfolding stayTest
-returns c = rw (le-leb _ _ (c .before .before .if1 .taken), c .before .if2 .taken)
+returns c =
+    let at-if1 = c .before .before in
+    rw (le-leb _ _ (at-if1 .if1 .taken), c .before .if2 .taken)
 
 returns-2 : tie.Need-returns-2
 unfolding stayTest

@@ -1,11 +1,13 @@
--- `stay::joins` meets its contract. Assumes nothing.
+-- `stay::joins` meets its contract.
 use Rattle.stay.specs.Steps.{joinTest}
 use Rattle.stay.proofs.joins.Statement.{statement}
 use Rattle.stay.proofs.joins.Tie as tie
 
 returns : tie.Need-returns
 unfolding joinTest
-returns c = rw (c .before .before .if1 .taken, c .before .if2 .taken)
+returns c =
+    let at-if1 = c .before .before in
+    rw (at-if1 .if1 .taken, c .before .if2 .taken)
 
 returns-2 : tie.Need-returns-2
 unfolding joinTest

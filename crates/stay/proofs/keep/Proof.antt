@@ -1,4 +1,4 @@
--- `stay::keep` meets its contract. Assumes nothing.
+-- `stay::keep` meets its contract.
 use mathlib.Core.Path.{_≡_}
 use native.Mathlib.Omega.{arith}
 use Prim.Native.Nat.{_-_, _^_}
@@ -64,11 +64,15 @@ same-length-2 c = search needs
 
 returns : tie.Need-returns
 returns c =
-    let a = c .before .before .before .before .before .args in
+    let after-fill = c .before in
+    let at-if1 = after-fill .before .before in
+    let at-start = at-if1 .before .before in
+    let a = at-start .args in
     let n = a .i - a .o .start in
-    let d : c .before .fill .last .0 ≡ replicate n (pos (a .o .stays)) =
-    rw (length-take-le n (drop (a .o .start) (a .events .now)) (simp length-drop (omega arith)), lt-ltb (a .o .stays) (2 ^ 31) (omega arith)) at (c .before .fill .ensures) in
-    rw (c .before .before .before .if1 .taken) (kept-stay (a .q) (a .i) (a .work .now) (a .events .now) (a .o) (a .m) (c .before .before .before .before .before .pre) d)
+    let d : after-fill .fill .last .0 ≡ replicate n (pos (a .o .stays)) = rw
+    (length-take-le n (drop (a .o .start) (a .events .now)) (simp length-drop (omega arith)), lt-ltb (a .o .stays) (2 ^ 31) (omega arith)) at
+    (after-fill .fill .ensures) in
+    rw (at-if1 .if1 .taken) (kept-stay (a .q) (a .i) (a .work .now) (a .events .now) (a .o) (a .m) (at-start .pre) d)
 
 mul-fill-2 : tie.Need-mul-fill-2
 mul-fill-2 c = search needs
@@ -90,11 +94,14 @@ same-length-3 c = search needs
 
 returns-2 : tie.Need-returns-2
 returns-2 c =
-    let a = c .before .before .before .before .before .args in
+    let after-fill2 = c .before in
+    let at-if1 = after-fill2 .before .before in
+    let at-start = at-if1 .before .before in
+    let a = at-start .args in
     let n = a .i - a .o .start in
-    let d : c .before .fill2 .last .0 ≡ replicate n (negsuc 0) =
-    rw (length-take-le n (drop (a .o .start) (a .events .now)) (simp length-drop (omega arith))) at (c .before .fill2 .ensures) in
-    rw (c .before .before .before .if1 .left) (kept-none (a .q) (a .i) (a .work .now) (a .events .now) (a .o) (a .m) (c .before .before .before .before .before .pre) d)
+    let d : after-fill2 .fill2 .last .0 ≡ replicate n (negsuc 0) = rw
+    (length-take-le n (drop (a .o .start) (a .events .now)) (simp length-drop (omega arith))) at (after-fill2 .fill2 .ensures) in
+    rw (at-if1 .if1 .left) (kept-none (a .q) (a .i) (a .work .now) (a .events .now) (a .o) (a .m) (at-start .pre) d)
 
 pub keep-spec : {M : Type 1} → statement M
 keep-spec =

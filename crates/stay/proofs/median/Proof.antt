@@ -1,4 +1,4 @@
--- `stay::median` meets its contract. Assumes nothing.
+-- `stay::median` meets its contract.
 use lib.Ieee.{ofBits, div, mul}
 use Rattle.stay.specs.Ordered.{median}
 use Rattle.stay.proofs.Ordered.{median-none}

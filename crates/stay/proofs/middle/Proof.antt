@@ -1,9 +1,9 @@
--- `stay::middle` meets its contract. Assumes nothing.
+-- `stay::middle` meets its contract.
 use native.Mathlib.Omega.{arith}
 use native.Mathlib.Nat.{add-sub-cancel-left, sub-zero}
 use lib.Seq.{take-take}
 use lib.ListN.{drop}
-use Rattle.stay.specs.Regions.{middleIn}
+use Rattle.stay.specs.StepsRegions.{middleIn}
 use borrow.Author.Needs.{needs}
 use Rattle.stay.proofs.middle.Statement.{statement}
 use Rattle.stay.proofs.middle.Tie as tie
@@ -41,8 +41,17 @@ median-requires-2 c κs = search needs
 returns : tie.Need-returns
 unfolding middleIn
 returns c =
-    let a = c .before .before .before .before .before .args in
-    rw (c .before .before .median .ensures, c .median2 .ensures, sub-zero, add-sub-cancel-left, take-take (a .len) (a .q) (a .work .now) (omega arith), take-take (a .len) (a .q) (drop (a .q) (a .work .now)) (omega arith))
+    let after-median = c .before .before in
+    let at-start = after-median .before .before .before in
+    let a = at-start .args in
+    rw (
+      after-median .median .ensures,
+      c .median2 .ensures,
+      sub-zero,
+      add-sub-cancel-left,
+      take-take (a .len) (a .q) (a .work .now) (omega arith),
+      take-take (a .len) (a .q) (drop (a .q) (a .work .now)) (omega arith),
+    )
 
 pub middle-spec : {M : Type 1} → statement M
 middle-spec =

@@ -1,10 +1,10 @@
--- `stay::next` meets its contract. Assumes nothing.
+-- `stay::next` meets its contract.
 use mathlib.Core.Path.{_≡_, refl, sym, ap, _∙_}
 use Prim.Native.Nat.{_-_}
 use native.Mathlib.Omega.{arith}
 use Rattle.distance.specs.Distance.{euclidean}
-use Rattle.stay.specs.Ordered.{inOrder}
-use Rattle.stay.specs.Steps.{State, stateOf, closed, kept, taken}
+use Rattle.stay.specs.StepsOrdered.{inOrder}
+use Rattle.stay.specs.Steps.{State, stateOf, closed, closedAs, withPoint}
 use Rattle.stay.proofs.States.{grown-state, step-joins, step-closes, test-is}
 use borrow.Author.Needs.{needs}
 use Rattle.stay.proofs.next.Statement.{statement}
@@ -36,21 +36,31 @@ same-length c = search needs
 
 returns : tie.Need-returns
 returns c =
-    let a = c .before .before .before .before .before .before .before .before .before .before .before .before .args in
-    let p = c .before .before .before .before .before .before .before .before .before .before .before .before .pre .1 in
+    let after-insert-both = c .before .before in
+    let at-if1 = after-insert-both .before .before in
+    let after-joins = at-if1 .before in
+    let after-elapsed = after-joins .before in
+    let after-distance = after-elapsed .before in
+    let after-middle = after-distance .before in
+    let at-start = after-middle .before .before .before .before in
+    let a = at-start .args in
+    let p = at-start .pre .1 in
     let st = stateOf (a .q) (a .i) (a .work .now) (a .events .now) (a .o) in
-    rw (c .before .before .insert-both .ensures)
-    (grown-state (a .q) (a .i) (a .i - a .o .start) (a .work .now) (a .events .now) (a .o) (a .p) (omega arith) refl (omega arith) (p .room .parts)
-    ∙ sym (step-joins euclidean (a .s) (a .timed) (a .times .now) (a .p) (a .i) st
+    rw (after-insert-both .insert-both .ensures)
+    (grown-state (a .q) (a .i) (a .i - a .o .start) (a .work .now) (a .events .now) (a .o) (a .p) (omega arith) refl (omega arith)
+    (p .room .parts) ∙ sym
+    (step-joins euclidean (a .s) (a .timed) (a .times .now) (a .p) (a .i) st
     (test-is euclidean (a .s) (a .timed) (a .times .now) (a .p) (a .i) (a .q) (a .work .now) (a .events .now) (a .o)
-    (c .before .before .before .before .before .before .before .before .middle .ensures) (c .before .before .before .before .before .before .before .distance .ensures .equation) (c .before .before .before .before .before .before .elapsed .ensures) (c .before .before .before .before .before .joins .ensures) (c .before .before .before .before .if1 .taken))))
+    (after-middle .middle .ensures) (after-distance .distance .ensures .equation) (after-elapsed .elapsed .ensures)
+    (after-joins .joins .ensures) (at-if1 .if1 .taken))))
 
 close-requires : tie.Need-close-requires
 close-requires c κs = search needs
 
 insert-both-requires-2 : tie.Need-insert-both-requires-2
 unfolding inOrder
-insert-both-requires-2 c κs = record { more = omega arith; fits = omega (arith, c .before .before .before .before .close .kept .1 .1 .1 .0); x-order = refl; y-order = refl }
+insert-both-requires-2 c κs =
+    record { more = omega arith; fits = omega (arith, c .before .before .before .before .close .kept .1 .1 .1 .0); x-order = refl; y-order = refl }
 
 same-length-2 : tie.Need-same-length-2
 same-length-2 c = search needs
@@ -59,19 +69,28 @@ same-length-3 : tie.Need-same-length-3
 same-length-3 c = search needs
 
 returns-2 : tie.Need-returns-2
-unfolding closed kept stateOf
+unfolding closed closedAs stateOf
 returns-2 c =
-    let a = c .before .before .before .before .before .before .before .before .before .before .before .before .before .before .before .before .before .before .args in
-    let p = c .before .before .before .before .before .before .before .before .before .before .before .before .before .before .before .before .before .before .pre .1 in
+    let after-insert-both2 = c .before .before in
+    let after-close = after-insert-both2 .before .before .before .before .before in
+    let at-if1 = after-close .before .before .before in
+    let after-joins = at-if1 .before in
+    let after-elapsed = after-joins .before in
+    let after-distance = after-elapsed .before in
+    let after-middle = after-distance .before in
+    let at-start = after-middle .before .before .before .before in
+    let a = at-start .args in
+    let p = at-start .pre .1 in
     let st = stateOf (a .q) (a .i) (a .work .now) (a .events .now) (a .o) in
-    let e = c .before .before .before .before .before .before .before .close .ensures in
-    let at : c .before .before .before .before .before .before .before .close .result .start ≡ a .i = ap (λ (z : State). z .start) e in
-    rw (c .before .before .insert-both2 .ensures)
-    (grown-state (a .q) (a .i) 0 (c .before .before .before .before .before .before .before .close .last .1 .1 .1 .0) (c .before .before .before .before .before .before .before .close .last .1 .1 .1 .1 .0) (c .before .before .before .before .before .before .before .close .result) (a .p) (omega arith) (omega arith) (omega arith) (omega (arith, c .before .before .before .before .before .before .before .close .kept .1 .1 .1 .0))
-    ∙ ap (taken (a .p)) e
-    ∙ sym (step-closes euclidean (a .s) (a .timed) (a .times .now) (a .p) (a .i) st
+    let e = after-close .close .ensures in
+    let at : after-close .close .result .start ≡ a .i = ap (λ (z : State). z .start) e in
+    rw (after-insert-both2 .insert-both2 .ensures)
+    (grown-state (a .q) (a .i) 0 (after-close .close .last .1 .1 .1 .0) (after-close .close .last .1 .1 .1 .1 .0) (after-close .close .result)
+    (a .p) (omega arith) (omega arith) (omega arith) (omega (arith, after-close .close .kept .1 .1 .1 .0)) ∙ ap (withPoint (a .p)) e ∙ sym
+    (step-closes euclidean (a .s) (a .timed) (a .times .now) (a .p) (a .i) st
     (test-is euclidean (a .s) (a .timed) (a .times .now) (a .p) (a .i) (a .q) (a .work .now) (a .events .now) (a .o)
-    (c .before .before .before .before .before .before .before .before .before .before .before .before .before .before .middle .ensures) (c .before .before .before .before .before .before .before .before .before .before .before .before .before .distance .ensures .equation) (c .before .before .before .before .before .before .before .before .before .before .before .before .elapsed .ensures) (c .before .before .before .before .before .before .before .before .before .before .before .joins .ensures) (c .before .before .before .before .before .before .before .before .before .before .if1 .left))))
+    (after-middle .middle .ensures) (after-distance .distance .ensures .equation) (after-elapsed .elapsed .ensures)
+    (after-joins .joins .ensures) (at-if1 .if1 .left))))
 
 pub next-spec : {M : Type 1} → statement M
 next-spec =

@@ -1,4 +1,4 @@
--- `stay::shift_in` meets its contract: without the element at j the slice is the old one without its last. Assumes nothing.
+-- `stay::shift_in` meets its contract: without the element at j the slice is the old one without its last.
 use mathlib.Core.Path.{_≡_, refl}
 use Prim.Native.Nat.{_-_, _≤_, _<_}
 use native.Mathlib.Omega.{arith}
@@ -42,7 +42,13 @@ loop-less : tie.Need-loop-less Inv-loop μ-loop
 loop-less c = search needs
 
 loop-again : tie.Need-loop-again Inv-loop μ-loop
-loop-again c = (omega arith, simp length-set (omega arith), simp length-set (omega arith), step-down (c .before .before .loop .j) (c .before .before .loop .s) _ (omega arith) (c .before .before .loop .inv .1) (c .before .before .loop .inv .3))
+loop-again c =
+    let at-loop = c .before .before in (
+      omega arith,
+      simp length-set (omega arith),
+      simp length-set (omega arith),
+      step-down (at-loop .loop .j) (at-loop .loop .s) _ (omega arith) (at-loop .loop .inv .1) (at-loop .loop .inv .3),
+    )
 
 mul-s-3 : tie.Need-mul-s-3 Inv-loop μ-loop
 mul-s-3 c = search needs
@@ -55,8 +61,11 @@ same-length c = search needs
 
 returns : tie.Need-returns Inv-loop μ-loop
 returns c =
-    let e : c .before .loop .j ≡ c .before .before .args .at = omega arith in
-    filled (c .before .before .args .at) (c .before .before .args .elem) (c .before .loop .s) (c .before .before .args .s .now) (omega arith) (c .before .loop .inv .2) (rw e at (c .before .loop .inv .3))
+    let at-loop = c .before in
+    let at-start = at-loop .before in
+    let args = at-start .args in
+    let e : at-loop .loop .j ≡ args .at = omega arith in
+    filled (args .at) (args .elem) (at-loop .loop .s) (args .s .now) (omega arith) (at-loop .loop .inv .2) (rw e at (at-loop .loop .inv .3))
 
 pub shift-in-spec : {M : Type 1} → statement M
 shift-in-spec =

@@ -39,17 +39,23 @@ slice-aggregate-answer-5 : tie.Need-slice-aggregate-answer-5
 slice-aggregate-answer-5 c = search needs
 
 answer-requires : tie.Need-answer-requires
-answer-requires c κs = let u = c .before .before .before .before .before .before .before .before .before .before .before .read-input .ensures in (textOf (heard (u .0)), heard-text (heard (u .0)) _ _ _ _ _ _ (u .1))
+answer-requires c κs =
+    let after-read-input = c .before .before .before .before .before .before .before .before .before .before .before in
+    let u = after-read-input .read-input .ensures in
+    (textOf (heard (u .0)), heard-text (heard (u .0)) _ _ (u .1))
 
 same-length : tie.Need-same-length
 same-length c = search needs
 
 returns : tie.Need-returns
 returns c =
-    let u = c .before .before .before .before .before .before .before .before .before .before .before .before .before .before .read-input .ensures in
-    let a = c .before .before .answer in
-    let long = c .before .before .before .before .before .before .before .before .before .before .before .before .before .before .before .before .before .before .before .before .before .pre in
-    heard-answered (u .0) _ _ _ (a .ensures _ (heard-text (heard (u .0)) _ _ _ _ _ _ (u .1))) long (a .kept .1 .1 .1 .1 .1 .1 .0)
+    let at-answer = c .before .before in
+    let after-read-input = at-answer .before .before .before .before .before .before .before .before .before .before .before .before in
+    let at-start = after-read-input .before .before .before .before .before .before .before in
+    let u = after-read-input .read-input .ensures in
+    let a = at-answer .answer in
+    let long = at-start .pre in
+    heard-answered (u .0) _ _ _ (a .ensures .writes (heard-text (heard (u .0)) _ _ (u .1))) long (a .kept .1 .1 .1 .1 .1 .1 .0)
 
 pub answer-input-spec : {M : Type 1} → statement M
 answer-input-spec =

@@ -1,6 +1,6 @@
 -- `stops::main` hands the answer to what it heard, and nothing else, to `write_answer`.
 use mathlib.Core.Path.{sym, subst}
-use Rattle.infostop.proofs.Slices.{lent-first}
+use Rattle.lists.proofs.Parts.{lent-first}
 use Rattle.stops.specs.Answer.{Answer}
 use borrow.Author.Needs.{needs}
 use Rattle.stops.proofs.main.Statement.{statement}
@@ -22,7 +22,10 @@ part-write-answer-end : tie.Need-part-write-answer-end
 part-write-answer-end c = search needs
 
 write-answer-requires : tie.Need-write-answer-requires
-write-answer-requires c κs = let a = c .before .before .before .answer-input in subst Answer (sym (lent-first (a .result) _)) (a .ensures .first)
+write-answer-requires c κs =
+    let at-answer-input = c .before .before .before in
+    let a = at-answer-input .answer-input in
+    subst Answer (sym (lent-first (a .result) _)) (a .ensures .first)
 
 returns : tie.Need-returns
 returns c = search needs

@@ -1,6 +1,6 @@
 -- `text::config` meets its contract.
 use mathlib.Core.Path.{sym}
-use Rattle.text.specs.Pieces.{configIn}
+use Rattle.text.specs.Machine.{configIn}
 use borrow.Author.Needs.{needs}
 use Rattle.text.proofs.config.Statement.{statement}
 use Rattle.text.proofs.config.Tie as tie
@@ -28,7 +28,22 @@ at-u64-requires-3 c κs = search needs
 
 returns : tie.Need-returns
 unfolding configIn
-returns c = sym (simp (← c .before .before .before .before .before .before .value .ensures, ← c .before .before .before .before .before .value2 .ensures, ← c .before .before .before .before .at-u64 .ensures, ← c .before .before .before .value3 .ensures, ← c .before .before .value4 .ensures, ← c .before .at-u642 .ensures, ← c .at-u643 .ensures))
+returns c =
+    let after-value4 = c .before .before in
+    let after-value3 = after-value4 .before in
+    let after-at-u64 = after-value3 .before in
+    let after-value2 = after-at-u64 .before in
+    let after-value = after-value2 .before in
+    sym
+    (simp (
+      ← after-value .value .ensures,
+      ← after-value2 .value2 .ensures,
+      ← after-at-u64 .at-u64 .ensures,
+      ← after-value3 .value3 .ensures,
+      ← after-value4 .value4 .ensures,
+      ← c .before .at-u642 .ensures,
+      ← c .at-u643 .ensures,
+    ))
 
 pub config-spec : {M : Type 1} → statement M
 config-spec =

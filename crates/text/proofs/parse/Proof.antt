@@ -34,11 +34,18 @@ same-length-5 c = search needs
 
 returns : tie.Need-returns
 returns c =
-    let d = c .before .before .before .before .before .before .before .before .before .before in
-    parses-whole _ _ _ _ _ _ _ _ _ _ _ _ _ _ (d .before .before .before .before .before .before .start .ensures) (d .feed .ensures) (d .before .before .before .before .before .before .before .before .before .verdict .ensures) (sym (d .before .before .before .before .before .before .before .before .is-taken .ensures) ∙ d .before .before .before .before .before .before .before .if1 .taken)
+    let after-feed = c .before .before .before .before .before .before .before .before .before .before in
+    let after-start = after-feed .before .before .before .before .before .before in
+    let at-if1 = after-start .before in
+    let after-is-taken = at-if1 .before in
+    let after-verdict = after-is-taken .before in
+    parses-whole (after-feed .feed .ensures .more (after-start .start .ensures .start _)) (after-verdict .verdict .ensures)
+    (sym (after-is-taken .is-taken .ensures) ∙ at-if1 .if1 .taken)
 
 returns-2 : tie.Need-returns-2
-returns-2 c = parses-refused _ _ _ _ _ _ _ (c .before .before .verdict .ensures) (sym (c .before .is-taken .ensures) ∙ c .if1 .left)
+returns-2 c =
+    let after-verdict = c .before .before in
+    parses-refused _ (after-verdict .verdict .ensures) (sym (c .before .is-taken .ensures) ∙ c .if1 .left)
 
 pub parse-spec : {M : Type 1} → statement M
 parse-spec =

@@ -4,10 +4,10 @@ use mathlib.Core.List.{[], _∷_}
 use native.Mathlib.Omega.{arith}
 use denote.Enum.Declared.{tagOf}
 use types.Run.{OneOf}
-use Rattle.tracks.specs.declared.refusal.Refusal.the-variants.{Counts}
-use Rattle.tracks.specs.declared.refusal.Checked.{Checked}
-use Rattle.tracks.specs.declared.refusal.Checked.the-variants.{Accepted as passed, Refused as failed}
-use Rattle.tracks.proofs.refusal.Checked.{the-type}
+use Rattle.settings.specs.declared.refusal.Refusal.the-variants.{Counts}
+use Rattle.settings.specs.declared.refusal.Checked.{Checked}
+use Rattle.settings.specs.declared.refusal.Checked.the-variants.{Accepted as passed, Refused as failed}
+use Rattle.settings.proofs.refusal.Checked.{the-type}
 use Rattle.text.specs.declared.Parsed.the-variants.{Refused}
 use Rattle.text.specs.Parsed.{tooMany}
 use borrow.Author.Needs.{needs}

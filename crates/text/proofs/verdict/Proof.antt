@@ -1,6 +1,4 @@
 -- `text::verdict` meets its contract.
-use mathlib.Core.Path.{_∙_}
-use Rattle.text.proofs.Pieces.{fed-whole, fed-end}
 use borrow.Author.Needs.{needs}
 use Rattle.text.proofs.verdict.Statement.{statement}
 use Rattle.text.proofs.verdict.Tie as tie
@@ -30,7 +28,10 @@ finish-requires : tie.Need-finish-requires
 finish-requires c κs = search needs
 
 returns : tie.Need-returns
-returns c = fed-end (fed-whole (c .before .before .before .before .before .before .before .before .before .before .before .before .start .ensures) (c .before .before .before .before .before .before .feed .ensures)) (c .finish .ensures) .answer
+returns c =
+    let after-feed = c .before .before .before .before .before .before in
+    let after-start = after-feed .before .before .before .before .before .before in
+    c .finish .ensures .end (after-feed .feed .ensures .more (after-start .start .ensures .start _)) .answer
 
 pub verdict-spec : {M : Type 1} → statement M
 verdict-spec =

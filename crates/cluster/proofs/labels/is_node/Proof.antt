@@ -14,7 +14,9 @@ wide-requires : tie.Need-wide-requires
 wide-requires c κs = search needs
 
 returns : tie.Need-returns
-returns c = rw (lt-ltb _ _ (c .before .before .if1 .taken), c .wide .ensures)
+returns c =
+    let at-if1 = c .before .before in
+    rw (lt-ltb _ _ (at-if1 .if1 .taken), c .wide .ensures)
 
 returns-2 : tie.Need-returns-2
 returns-2 c = rw (le-ltb _ _ (c .if1 .left))

@@ -33,7 +33,10 @@ loop-less : tie.Need-loop-less Inv-loop μ-loop
 loop-less c = search needs
 
 loop-again : tie.Need-loop-again Inv-loop μ-loop
-loop-again c = count-on _ _ _ (c .before .before .before .loop .inv) (c .before .before .loop-test .taken) (c .above .ensures)
+loop-again c =
+    let at-test = c .before .before in
+    let at-loop = at-test .before in
+    count-on _ _ _ (at-loop .loop .inv) (at-test .loop-test .taken) (c .above .ensures)
 
 returns : tie.Need-returns Inv-loop μ-loop
 returns c = count-end _ _ _ (c .before .loop .inv) (c .loop-test .left)

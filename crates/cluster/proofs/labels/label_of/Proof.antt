@@ -21,7 +21,9 @@ cast-result-2 : tie.Need-cast-result-2
 cast-result-2 c = search needs
 
 returns-2 : tie.Need-returns-2
-returns-2 c = rw (c .before .if1 .left, c .if2 .taken) (toZ-pos w32 (small (c .before .before .pre .1)))
+returns-2 c =
+    let at-start = c .before .before in
+    rw (c .before .if1 .left, c .if2 .taken) (toZ-pos w32 (small (at-start .pre .1)))
 
 returns-3 : tie.Need-returns-3
 returns-3 c = rw (c .before .if1 .left, c .if2 .left)

@@ -38,9 +38,14 @@ add-label-of c = search needs
 
 label-of-requires : tie.Need-label-of-requires Inv-loop μ-loop
 label-of-requires c κs =
-    let s = c .before .before .before .before .before .before .before in
-    let l = c .before .before .before .loop in
-    (omega (arith, c .group-of .ensures, label-le (s .args .groups .now) (l .u), s .pre .1), omega (arith, c .before .before .before .before .label-count .ensures, c .before .before .loop-test .taken, l .inv .0, s .pre .0, s .pre .1))
+    let at-test = c .before .before in
+    let at-loop = at-test .before in
+    let after-label-count = at-loop .before in
+    let at-start = after-label-count .before .before .before in
+    let l = at-loop .loop in (
+      omega (arith, c .group-of .ensures, label-le (at-start .args .groups .now) (l .u), at-start .pre .1),
+      omega (arith, after-label-count .label-count .ensures, at-test .loop-test .taken, l .inv .0, at-start .pre .0, at-start .pre .1),
+    )
 
 mul-t14 : tie.Need-mul-t14 Inv-loop μ-loop
 mul-t14 c = search needs
@@ -59,23 +64,27 @@ loop-less c = search needs
 
 loop-again : tie.Need-loop-again Inv-loop μ-loop
 loop-again c =
-    let s = c .before .before .before .before .before .before .before .before .before in
-    let l = c .before .before .before .before .before .loop in
-    let t = c .before .before .before .before .loop-test .taken in (
+    let after-label-of = c .before in
+    let after-group-of = after-label-of .before in
+    let after-is-node = after-group-of .before in
+    let at-test = after-is-node .before in
+    let at-loop = at-test .before in
+    let after-label-count = at-loop .before in
+    let l = at-loop .loop in
+    let t = at-test .loop-test .taken in (
       simp length-set (l .inv .0),
-      omega (arith, next-le (c .before .before .before .is-node .result) (l .u) (c .next-if .ensures), l .inv .1),
+      omega (arith, next-le (after-is-node .is-node .result) (l .u) (c .next-if .ensures), l .inv .1),
       omega arith,
-      walk-on _ _ _ _ _ _ _ (l .inv .3) (omega arith) t (c .before .before .before .is-node .ensures) (c .before .before .group-of .ensures) (c .before .before .before .before .before .before .label-count .ensures)
-          (toZ-ofZ {w = w32} (sfits-of {w = w32} (c .before .label-of .ok)) ∙ c .before .label-of .ensures) (c .next-if .ensures),
+      walk-on _ _ _ _ _ _ _ (l .inv .3) (omega arith) t (after-is-node .is-node .ensures) (after-group-of .group-of .ensures)
+          (after-label-count .label-count .ensures)
+          (toZ-ofZ {w = w32} (sfits-of {w = w32} (after-label-of .label-of .ok)) ∙ after-label-of .label-of .ensures) (c .next-if .ensures),
     )
 
 same-length : tie.Need-same-length Inv-loop μ-loop
 same-length c = c .before .loop .inv .0
 
 returns : tie.Need-returns Inv-loop μ-loop
-returns c =
-    let l = c .before .loop in
-    walk-end _ _ _ _ _ _ _ (l .inv .3) (omega arith) (l .inv .0)
+returns c = let l = c .before .loop in walk-end _ _ _ _ _ _ _ (l .inv .3) (omega arith) (l .inv .0)
 
 pub label-places-spec : {M : Type 1} → statement M
 label-places-spec =

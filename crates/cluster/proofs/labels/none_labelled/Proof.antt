@@ -25,7 +25,12 @@ shared-slice-copy-out-if1 : tie.Need-shared-slice-copy-out-if1 Inv-loop μ-loop
 shared-slice-copy-out-if1 c = search needs
 
 returns : tie.Need-returns Inv-loop μ-loop
-returns c = none-hit _ _ (c .before .before .before .loop .inv) (c .before .before .loop-test .taken) (sign-read (getD (c .before .before .before .before .args .labels .now) (c .before .before .before .loop .i) (pos 0)) (c .before .if12 .given) (c .if1 .taken))
+returns c =
+    let at-test = c .before .before in
+    let at-loop = at-test .before in
+    let at-start = at-loop .before in
+    none-hit _ _ (at-loop .loop .inv) (at-test .loop-test .taken)
+    (sign-read (getD (at-start .args .labels .now) (at-loop .loop .i) (pos 0)) (c .before .if12 .given) (c .if1 .taken))
 
 add-i : tie.Need-add-i Inv-loop μ-loop
 add-i c = search needs
@@ -34,7 +39,12 @@ loop-less : tie.Need-loop-less Inv-loop μ-loop
 loop-less c = search needs
 
 loop-again : tie.Need-loop-again Inv-loop μ-loop
-loop-again c = none-on _ _ (c .before .before .before .loop .inv) (c .before .before .loop-test .taken) (sign-read (getD (c .before .before .before .before .args .labels .now) (c .before .before .before .loop .i) (pos 0)) (c .before .if12 .given) (c .if1 .left))
+loop-again c =
+    let at-test = c .before .before in
+    let at-loop = at-test .before in
+    let at-start = at-loop .before in
+    none-on _ _ (at-loop .loop .inv) (at-test .loop-test .taken)
+    (sign-read (getD (at-start .args .labels .now) (at-loop .loop .i) (pos 0)) (c .before .if12 .given) (c .if1 .left))
 
 returns-2 : tie.Need-returns-2 Inv-loop μ-loop
 returns-2 c = none-end _ _ (c .before .loop .inv) (c .loop-test .left)

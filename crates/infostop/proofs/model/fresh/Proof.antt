@@ -2,7 +2,7 @@
 use mathlib.Core.Path.{refl}
 use lib.Ieee.{ofBits}
 -- Named so that the facts are checked before this proof.
-use Rattle.infostop.specs.Facts
+use Rattle.infostop.specs.NewModel
 use Rattle.infostop.proofs.model.fresh.Statement.{statement}
 use Rattle.infostop.proofs.model.fresh.Tie as tie
 

@@ -1,5 +1,5 @@
 -- `infostop::steps::from_medians` meets its contract.
-use mathlib.Core.Path.{_≡_, sym, _∙_, subst}
+use mathlib.Core.Path.{sym, _∙_, subst}
 use native.Mathlib.Omega.{arith}
 use lib.IntN.{negsuc}
 use lib.ListN.{length}
@@ -94,11 +94,15 @@ part-label-tracks-start c = search needs
 
 part-label-tracks-end : tie.Need-part-label-tracks-end
 part-label-tracks-end c =
-    let a = c .before .before .before .before .before .before .before .before .before .before .before .before .before .before .before .before .args in
-    let p = c .before .before .before .before .before .before .before .before .before .before .before .before .before .before .before .before .pre in
-    let d = c .before .before .before .before .before .before .before .before .distinct in
-    let g = c .before .before .before .found .given .1 in
-    array-room zero64 (a .places) _ (d .last .1 .1 .0) (p .0) (d .kept .1 .1 .0) (places-fit _ _ (a .places) _ _ (d .ensures .0) g (array-part zero64 (a .places) (p .0)))
+    let at-found = c .before .before .before in
+    let at-distinct = at-found .before .before .before .before .before in
+    let at-start = at-distinct .before .before .before .before .before .before .before .before in
+    let a = at-start .args in
+    let p = at-start .pre in
+    let d = at-distinct .distinct in
+    let g = at-found .found .given .1 in
+    array-room zero64 (a .places) _ (d .last .1 .1 .0) (p .0) (d .kept .1 .1 .0)
+    (places-fit _ _ (a .places) _ _ (d .ensures .0) g (array-part zero64 (a .places) (p .0)))
 
 sub-label-tracks-2 : tie.Need-sub-label-tracks-2
 sub-label-tracks-2 c = search needs
@@ -108,11 +112,15 @@ part-label-tracks-start-2 c = search needs
 
 part-label-tracks-end-2 : tie.Need-part-label-tracks-end-2
 part-label-tracks-end-2 c =
-    let a = c .before .before .before .before .before .before .before .before .before .before .before .before .before .before .before .before .before .before .args in
-    let p = c .before .before .before .before .before .before .before .before .before .before .before .before .before .before .before .before .before .before .pre in
-    let d = c .before .before .before .before .before .before .before .before .before .before .distinct in
-    let g = c .before .before .before .before .before .found .given .1 in
-    array-room zero64 (a .places) _ (d .last .1 .1 .1 .0) (p .0) (d .kept .1 .1 .1 .0) (places-fit _ _ (a .places) _ _ (d .ensures .0) g (array-part zero64 (a .places) (p .0)))
+    let at-found = c .before .before .before .before .before in
+    let at-distinct = at-found .before .before .before .before .before in
+    let at-start = at-distinct .before .before .before .before .before .before .before .before in
+    let a = at-start .args in
+    let p = at-start .pre in
+    let d = at-distinct .distinct in
+    let g = at-found .found .given .1 in
+    array-room zero64 (a .places) _ (d .last .1 .1 .1 .0) (p .0) (d .kept .1 .1 .1 .0)
+    (places-fit _ _ (a .places) _ _ (d .ensures .0) g (array-part zero64 (a .places) (p .0)))
 
 sub-label-tracks-3 : tie.Need-sub-label-tracks-3
 sub-label-tracks-3 c = search needs
@@ -122,11 +130,15 @@ part-label-tracks-start-3 c = search needs
 
 part-label-tracks-end-3 : tie.Need-part-label-tracks-end-3
 part-label-tracks-end-3 c =
-    let a = c .before .before .before .before .before .before .before .before .before .before .before .before .before .before .before .before .before .before .before .before .args in
-    let p = c .before .before .before .before .before .before .before .before .before .before .before .before .before .before .before .before .before .before .before .before .pre in
-    let d = c .before .before .before .before .before .before .before .before .before .before .before .before .distinct in
-    let g = c .before .before .before .before .before .before .before .found .given .1 in
-    array-room 0 (a .places) _ (d .last .1 .1 .1 .1 .0) (p .0) (d .kept .1 .1 .1 .1 .0) (places-fit _ _ (a .places) _ _ (d .ensures .0) g (array-part zero64 (a .places) (p .0)))
+    let at-found = c .before .before .before .before .before .before .before in
+    let at-distinct = at-found .before .before .before .before .before in
+    let at-start = at-distinct .before .before .before .before .before .before .before .before in
+    let a = at-start .args in
+    let p = at-start .pre in
+    let d = at-distinct .distinct in
+    let g = at-found .found .given .1 in
+    array-room 0 (a .places) _ (d .last .1 .1 .1 .1 .0) (p .0) (d .kept .1 .1 .1 .1 .0)
+    (places-fit _ _ (a .places) _ _ (d .ensures .0) g (array-part zero64 (a .places) (p .0)))
 
 sub-label-tracks-4 : tie.Need-sub-label-tracks-4
 sub-label-tracks-4 c = search needs
@@ -136,20 +148,31 @@ part-place-labels-start c = search needs
 
 part-place-labels-end : tie.Need-part-place-labels-end
 part-place-labels-end c =
-    let a = c .before .before .before .before .before .before .before .before .before .before .before .before .before .before .before .before .before .before .before .before .before .args in
-    let p = c .before .before .before .before .before .before .before .before .before .before .before .before .before .before .before .before .before .before .before .before .before .pre in
-    let d = c .before .before .before .before .before .before .before .before .before .before .before .before .before .distinct in
-    let g = c .before .before .before .before .before .before .before .before .found .given .1 in
+    let at-found = c .before .before .before .before .before .before .before .before in
+    let at-distinct = at-found .before .before .before .before .before in
+    let at-start = at-distinct .before .before .before .before .before .before .before .before in
+    let a = at-start .args in
+    let p = at-start .pre in
+    let d = at-distinct .distinct in
+    let g = at-found .found .given .1 in
     omega (arith, p .0, places-fit _ _ (a .places) _ _ (d .ensures .0) g (array-part zero64 (a .places) (p .0)))
 
 label-tracks-requires : tie.Need-label-tracks-requires
 label-tracks-requires c κs =
-    let a = c .before .before .before .before .before .before .before .before .before .before .before .before .before .before .before .before .before .before .before .before .before .before .before .before .before .args in
-    let p = c .before .before .before .before .before .before .before .before .before .before .before .before .before .before .before .before .before .before .before .before .before .before .before .before .before .pre in
-    let d = c .before .before .before .before .before .before .before .before .before .before .before .before .before .before .before .before .before .distinct in
-    let g = c .before .before .before .before .before .before .before .before .before .before .before .before .found .given .1 in
-    let s = some-places _ _ _ _ (d .ensures .0) g in
-    (place-slices (a .places) (a .k) (a .floats .now) (a .words .now) (a .labels .now) (p .0) (p .1) _ _ (d .last .1 .1 .0) (d .last .1 .1 .1 .0) (d .last .1 .1 .1 .1 .0) (s .0) (s .1) (array-part zero64 (a .places) (p .0)) (d .ensures .1) (d .ensures .2) (d .ensures .3) _ (array-part (negsuc 0) _ (omega (arith, p .0, places-fit _ _ (a .places) _ _ (d .ensures .0) g (array-part zero64 (a .places) (p .0))))), label-space (a .places) (a .k) (a .floats .now) (a .words .now) (a .labels .now) (p .0) (p .1) _ _ (d .last .1 .1 .0) (d .last .1 .1 .1 .0) (d .last .1 .1 .1 .1 .0) (s .0) (s .1) (array-part zero64 (a .places) (p .0)) (d .ensures .1) (d .ensures .2) (d .ensures .3))
+    let at-found = c .before .before .before .before .before .before .before .before .before .before .before .before in
+    let at-distinct = at-found .before .before .before .before .before in
+    let at-start = at-distinct .before .before .before .before .before .before .before .before in
+    let a = at-start .args in
+    let p = at-start .pre in
+    let d = at-distinct .distinct in
+    let g = at-found .found .given .1 in
+    let s = some-places _ _ _ _ (d .ensures .0) g in (
+      place-slices (a .places) (a .k) (a .floats .now) (a .words .now) (a .labels .now) (p .0) (p .1) _ _ (d .last .1 .1 .0) (d .last .1 .1 .1 .0)
+          (d .last .1 .1 .1 .1 .0) (s .0) (s .1) (array-part zero64 (a .places) (p .0)) (d .ensures .1) (d .ensures .2) (d .ensures .3) _
+          (array-part (negsuc 0) _ (omega (arith, p .0, places-fit _ _ (a .places) _ _ (d .ensures .0) g (array-part zero64 (a .places) (p .0))))),
+      label-space (a .places) (a .k) (a .floats .now) (a .words .now) (a .labels .now) (p .0) (p .1) _ _ (d .last .1 .1 .0) (d .last .1 .1 .1 .0)
+          (d .last .1 .1 .1 .1 .0) (s .0) (s .1) (array-part zero64 (a .places) (p .0)) (d .ensures .1) (d .ensures .2) (d .ensures .3),
+    )
 
 with-model-requires : tie.Need-with-model-requires
 with-model-requires c κs = search needs
@@ -159,10 +182,13 @@ same-length c = search needs
 
 returns : tie.Need-returns
 returns c ts f =
-    let a = c .before .before .before .before .before .before .before .before .before .before .before .before .before .args in
-    let p = c .before .before .before .before .before .before .before .before .before .before .before .before .before .pre in
-    let d = c .before .before .before .before .before .distinct in
-    too-many-end (a .model) (a .places) (a .k) (a .floats .now) (a .words .now) (a .labels .now) (p .0) (p .1) ts f _ (array-part zero64 (a .places) (p .0)) (too-many _ _ _ (d .ensures .0) (c .enum-told .given .1))
+    let at-distinct = c .before .before .before .before .before in
+    let at-start = at-distinct .before .before .before .before .before .before .before .before in
+    let a = at-start .args in
+    let p = at-start .pre in
+    let d = at-distinct .distinct in
+    too-many-end (a .model) (a .places) (a .k) (a .floats .now) (a .words .now) (a .labels .now) (p .0) (p .1) ts f _
+    (array-part zero64 (a .places) (p .0)) (too-many _ _ _ (d .ensures .0) (c .enum-told .given .1))
 
 same-length-2 : tie.Need-same-length-2
 same-length-2 c = search needs
@@ -175,15 +201,24 @@ same-length-4 c = search needs
 
 returns-2 : tie.Need-returns-2
 returns-2 c ts f =
-    let a = c .before .before .before .before .before .before .before .before .before .before .before .before .before .before .before .before .before .before .before .before .before .before .before .before .before .before .before .before .before .before .before .before .args in
-    let p = c .before .before .before .before .before .before .before .before .before .before .before .before .before .before .before .before .before .before .before .before .before .before .before .before .before .before .before .before .before .before .before .before .pre in
-    let d = c .before .before .before .before .before .before .before .before .before .before .before .before .before .before .before .before .before .before .before .before .before .before .before .before .distinct in
-    let g = c .before .before .before .before .before .before .before .before .before .before .before .before .before .before .before .before .before .before .before .found .given .1 in
+    let at-label-tracks = c .before .before .before .before .before .before in
+    let at-found = at-label-tracks .before .before .before .before .before .before .before .before .before .before .before .before .before in
+    let at-distinct = at-found .before .before .before .before .before in
+    let at-start = at-distinct .before .before .before .before .before .before .before .before in
+    let a = at-start .args in
+    let p = at-start .pre in
+    let d = at-distinct .distinct in
+    let g = at-found .found .given .1 in
     let s = some-places _ _ _ _ (d .ensures .0) g in
-    let l = c .before .before .before .before .before .before .label-tracks in
-    subst (λ (r : Fit). Ended (a .model) (a .labels .now) (placesOutcome (a .model .config) (a .places) ts) r (l .last .1 .1 .1 .1 .1 .1 .1 .1 .0)) (sym (c .with-model .ensures))
-    (medians-end (a .model) (a .places) (a .k) (a .floats .now) (a .words .now) (a .labels .now) (p .0) (p .1) ts f _ _ (d .last .1 .1 .0) (d .last .1 .1 .1 .0) (d .last .1 .1 .1 .1 .0) (s .0) (s .1) (array-part zero64 (a .places) (p .0)) (d .ensures .1) (d .ensures .2) (d .ensures .3)
-    (l .result) (l .last .1 .1 .1 .1 .1 .0) (l .last .1 .1 .1 .1 .1 .1 .1 .1 .0) (l .kept .1 .1 .1 .1 .1 .0 ∙ array-part (negsuc 0) _ (omega (arith, p .0, places-fit _ _ (a .places) _ _ (d .ensures .0) g (array-part zero64 (a .places) (p .0))))) (l .ensures))
+    let l = at-label-tracks .label-tracks in
+    subst (λ (r : Fit). Ended (a .model) (a .labels .now) (placesOutcome (a .model .config) (a .places) ts) r (l .last .1 .1 .1 .1 .1 .1 .1 .1 .0))
+    (sym (c .with-model .ensures))
+    (medians-end (a .model) (a .places) (a .k) (a .floats .now) (a .words .now) (a .labels .now) (p .0) (p .1) ts f _ _ (d .last .1 .1 .0)
+    (d .last .1 .1 .1 .0) (d .last .1 .1 .1 .1 .0) (s .0) (s .1) (array-part zero64 (a .places) (p .0)) (d .ensures .1) (d .ensures .2)
+    (d .ensures .3) (l .result) (l .last .1 .1 .1 .1 .1 .0) (l .last .1 .1 .1 .1 .1 .1 .1 .1 .0)
+    (l .kept .1 .1 .1 .1 .1 .0 ∙ array-part (negsuc 0) _
+    (omega (arith, p .0, places-fit _ _ (a .places) _ _ (d .ensures .0) g (array-part zero64 (a .places) (p .0)))))
+    (l .ensures))
 
 pub from-medians-spec : {M : Type 1} → statement M
 from-medians-spec =

@@ -1,14 +1,13 @@
 -- `infostop::steps::label_fixes` meets its contract.
-use mathlib.Core.Path.{_≡_, sym, ap, ap₂, _∙_}
-use mathlib.Core.Bool.{Bool, cond}
+use mathlib.Core.Path.{_≡_, sym, ap₂, _∙_}
 use mathlib.Core.List.{List}
-use Prim.Native.Nat.{ℕ, _+_, _-_, _≤_}
+use Prim.Native.Nat.{ℕ, _+_, _≤_}
 use native.Mathlib.Nat.{add-sub-cancel-left}
 use native.Mathlib.Omega.{arith}
 use lib.IntN.{ℤ}
 use lib.ListN.{length, take}
-use Rattle.events.specs.Events.{eventLabels}
-use Rattle.infostop.proofs.Slices.{lent, back, lent-length, back-part, back-before, lent-first}
+use Rattle.cluster.specs.Steps.{eventLabels}
+use Rattle.lists.proofs.Parts.{lent, back, lent-length, back-part, back-before, lent-first}
 use borrow.Author.Needs.{needs}
 use Rattle.infostop.proofs.steps.label_fixes.Statement.{statement}
 use Rattle.infostop.proofs.steps.label_fixes.Tie as tie
@@ -71,12 +70,18 @@ joined n m p words labels stays h l e q =
 
 returns-2 : tie.Need-returns-2
 returns-2 c cs e =
-    let a = c .before .before .before .before .before .before .before .before .before .before .before .before .before .before .args in
-    let s = c .before .before .before .before .before .before .before .stay-labels in
+    let at-stay-labels = c .before .before .before .before .before .before .before in
+    let at-if1 = at-stay-labels .before .before in
+    let at-start = at-if1 .before .before .before .before .before in
+    let a = at-start .args in
+    let s = at-stay-labels .stay-labels in
     let n = length (a .labels .now) in
     let m = length (a .mx .now) in
     let h : n + m ≤ length (a .words .now) = omega arith in
-    rw (c .before .before .before .before .before .before .before .before .before .if1 .left) (joined n m (s .last .1 .1 .1 .1 .1 .0) (a .words .now) _ _ (omega arith) (s .kept .1 .1 .1 .1 .1 .0 ∙ lent-length n (n + m) (a .words .now) (omega arith) h ∙ add-sub-cancel-left n m) (c .before .fix-labels .ensures) (s .ensures cs e))
+    rw (at-if1 .if1 .left)
+    (joined n m (s .last .1 .1 .1 .1 .1 .0) (a .words .now) _ _ (omega arith)
+    (s .kept .1 .1 .1 .1 .1 .0 ∙ lent-length n (n + m) (a .words .now) (omega arith) h ∙ add-sub-cancel-left n m)
+    (c .before .fix-labels .ensures) (s .ensures cs e))
 
 pub label-fixes-spec : {M : Type 1} → statement M
 label-fixes-spec =

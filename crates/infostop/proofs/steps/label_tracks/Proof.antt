@@ -30,7 +30,8 @@ part-cluster-end c = search needs
 
 cluster-requires : tie.Need-cluster-requires
 cluster-requires c κs =
-    let p = c .before .before .before .before .before .before .pre in
+    let at-start = c .before .before .before .before .before .before in
+    let p = at-start .pre in
     (table-there _ _ _ _ _ _ _ _ (p .0) (p .1), p .0 .labels-length)
 
 none-labelled-requires : tie.Need-none-labelled-requires
@@ -92,11 +93,16 @@ same-length-4 c = search needs
 
 returns : tie.Need-returns
 returns c =
-    let a = c .before .before .before .before .before .before .before .before .before .before .before .before .before .before .before .before .before .before .before .before .before .before .args in
-    let p = c .before .before .before .before .before .before .before .before .before .before .before .before .before .before .before .before .before .before .before .before .before .before .pre in
-    let k = c .before .before .before .before .before .before .before .before .before .before .before .before .before .before .before .cluster in
-    grouped _ _ _ _ _ _ _ _ _ (k .result) (k .ensures) _ (c .before .before .before .before .before .before .before .before .before .before .none-labelled .ensures) _ (c .answer-of .ensures) (4 * length (a .labels .now) + length (a .px .now) * length (a .px .now)) (k .last .1 .1 .1 .1 .1 .1 .0) _ (p .1 .few-stays)
-    (omega (arith, p .1 .floats-length)) (c .before .before .before .label-fixes .ensures (a .counts .now) (p .0 .counts))
+    let after-label-fixes = c .before .before .before in
+    let after-none-labelled = after-label-fixes .before .before .before .before .before .before .before in
+    let at-cluster = after-none-labelled .before .before .before .before .before in
+    let at-start = at-cluster .before .before .before .before .before .before .before in
+    let a = at-start .args in
+    let p = at-start .pre in
+    let k = at-cluster .cluster in
+    grouped _ _ _ _ _ _ _ _ _ (k .result) (k .ensures) _ (after-none-labelled .none-labelled .ensures) _ (c .answer-of .ensures)
+    (4 * length (a .labels .now) + length (a .px .now) * length (a .px .now)) (k .last .1 .1 .1 .1 .1 .1 .0) _ (p .1 .few-stays)
+    (omega (arith, p .1 .floats-length)) (after-label-fixes .label-fixes .ensures (a .counts .now) (p .0 .counts))
 
 pub label-tracks-spec : {M : Type 1} → statement M
 label-tracks-spec =

@@ -1,9 +1,9 @@
 -- `neighbors::nodes::compact` meets its contract.
-use mathlib.Core.Path.{_≡_, refl, sym, _∙_}
-use Prim.Native.Nat.{_+_, _*_, _-_, _≤_}
+use mathlib.Core.Path.{_≡_, refl}
+use Prim.Native.Nat.{_*_, _-_, _≤_}
 use native.Mathlib.Omega.{arith}
 use lib.ListN.{length}
-use Rattle.neighbors.specs.Tables.{Compacted}
+use Rattle.neighbors.specs.StepsTables.{Compacted}
 use Rattle.neighbors.proofs.Compact.{compact-none, compact-all}
 use borrow.Author.Needs.{needs}
 use Rattle.neighbors.proofs.nodes.compact.Statement.{statement}
@@ -19,7 +19,9 @@ loop-holds : tie.Need-loop-holds Inv-loop μ-loop
 loop-holds c = (compact-none _ _ _, refl, omega arith)
 
 compact-row-requires : tie.Need-compact-row-requires Inv-loop μ-loop
-compact-row-requires c κs = (c .before .before .before .before .before .pre .0, omega arith, c .before .loop-test .taken, c .before .before .before .before .before .pre .2)
+compact-row-requires c κs =
+    let at-start = c .before .before .before .before .before in
+    (at-start .pre .0, omega arith, c .before .loop-test .taken, at-start .pre .2)
 
 add-u : tie.Need-add-u Inv-loop μ-loop
 add-u c = search needs
@@ -28,13 +30,18 @@ loop-less : tie.Need-loop-less Inv-loop μ-loop
 loop-less c = search needs
 
 loop-again : tie.Need-loop-again Inv-loop μ-loop
-loop-again c = (c .before .before .compact-row .ensures _ (c .before .before .before .before .before .loop .inv .0), omega arith, omega arith)
+loop-again c =
+    let after-compact-row = c .before .before in
+    let at-loop = after-compact-row .before .before .before in
+    (after-compact-row .compact-row .ensures _ (at-loop .loop .inv .0), omega arith, omega arith)
 
 same-length : tie.Need-same-length Inv-loop μ-loop
 same-length c = search needs
 
 returns : tie.Need-returns Inv-loop μ-loop
-returns c = compact-all _ _ _ _ _ (c .before .loop .inv .0) (c .before .loop .inv .2) (c .loop-test .left)
+returns c =
+    let at-loop = c .before in
+    compact-all _ _ _ _ _ (at-loop .loop .inv .0) (at-loop .loop .inv .2) (c .loop-test .left)
 
 pub compact-spec : {M : Type 1} → statement M
 compact-spec =

@@ -3,7 +3,7 @@ use mathlib.Core.Path.{_≡_, refl}
 use Prim.Native.Nat.{_-_, _≤_}
 use native.Mathlib.Omega.{arith}
 use lib.ListN.{length}
-use Rattle.neighbors.specs.Tables.{hasWeight, rowsWithWeight}
+use Rattle.neighbors.specs.StepsTables.{hasWeight, rowsWithWeight}
 use Rattle.neighbors.proofs.Selected.{Selected, select-start, select-on, select-end}
 use borrow.Author.Needs.{needs}
 use Rattle.neighbors.proofs.nodes.find_nodes.Statement.{statement}
@@ -22,7 +22,9 @@ has-weight-requires : tie.Need-has-weight-requires Inv-loop μ-loop
 has-weight-requires c κs = search needs
 
 put-if-requires : tie.Need-put-if-requires Inv-loop μ-loop
-put-if-requires c κs = (omega (arith, c .before .before .before .loop .inv .0 .few), omega arith)
+put-if-requires c κs =
+    let at-loop = c .before .before .before in
+    (omega (arith, at-loop .loop .inv .0 .few), omega arith)
 
 add-i : tie.Need-add-i Inv-loop μ-loop
 add-i c = search needs
@@ -31,7 +33,16 @@ loop-less : tie.Need-loop-less Inv-loop μ-loop
 loop-less c = search needs
 
 loop-again : tie.Need-loop-again Inv-loop μ-loop
-loop-again c = (select-on _ _ _ _ _ _ (c .before .before .before .before .before .before .loop .inv .0) (c .before .before .before .before .before .loop-test .taken) (omega arith) (c .before .before .before .before .has-weight .ensures) (c .before .before .put-if .ensures), omega arith, omega arith)
+loop-again c =
+    let after-put-if = c .before .before in
+    let after-has-weight = after-put-if .before .before in
+    let at-test = after-has-weight .before in
+    let at-loop = at-test .before in (
+      select-on _ _ _ _ _ _ (at-loop .loop .inv .0) (at-test .loop-test .taken) (omega arith) (after-has-weight .has-weight .ensures)
+          (after-put-if .put-if .ensures),
+      omega arith,
+      omega arith,
+    )
 
 same-length : tie.Need-same-length Inv-loop μ-loop
 same-length c = search needs

@@ -1,5 +1,4 @@
 -- `neighbors::nodes::put_if` meets its contract.
-use mathlib.Core.Path.{_≡_, refl, sym, _∙_}
 use borrow.Author.Needs.{needs}
 use Rattle.neighbors.proofs.nodes.put_if.Statement.{statement}
 use Rattle.neighbors.proofs.nodes.put_if.Tie as tie

@@ -32,7 +32,11 @@ same-place-requires : tie.Need-same-place-requires Inv-loop μ-loop
 same-place-requires c κs = search needs
 
 returns : tie.Need-returns Inv-loop μ-loop
-returns c = search-hit _ _ _ _ (c .before .before .before .before .before .loop .inv .1) (c .before .before .before .before .loop-test .taken) (c .before .before .before .before .before .before .before .before .pre) (c .before .same-place .ensures) (c .if1 .taken)
+returns c =
+    let at-test = c .before .before .before .before in
+    let at-loop = at-test .before in
+    let at-start = at-loop .before .before .before in
+    search-hit _ _ _ _ (at-loop .loop .inv .1) (at-test .loop-test .taken) (at-start .pre) (c .before .same-place .ensures) (c .if1 .taken)
 
 add-i : tie.Need-add-i Inv-loop μ-loop
 add-i c = search needs
@@ -41,7 +45,14 @@ loop-less : tie.Need-loop-less Inv-loop μ-loop
 loop-less c = search needs
 
 loop-again : tie.Need-loop-again Inv-loop μ-loop
-loop-again c = (omega arith, search-on _ _ _ _ (c .before .before .before .before .before .loop .inv .1) (c .before .before .before .before .loop-test .taken) (c .before .before .before .before .before .before .before .before .pre) (c .before .same-place .ensures) (c .if1 .left))
+loop-again c =
+    let at-test = c .before .before .before .before in
+    let at-loop = at-test .before in
+    let at-start = at-loop .before .before .before in (
+      omega arith,
+      search-on _ _ _ _ (at-loop .loop .inv .1) (at-test .loop-test .taken) (at-start .pre) (c .before .same-place .ensures)
+          (c .if1 .left),
+    )
 
 returns-2 : tie.Need-returns-2 Inv-loop μ-loop
 returns-2 c = search-end _ _ _ _ (c .before .loop .inv .1) (c .loop-test .left)

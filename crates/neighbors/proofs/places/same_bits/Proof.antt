@@ -1,10 +1,10 @@
 -- `neighbors::places::same_bits` meets its contract.
-use mathlib.Core.Path.{_≡_, refl, sym, subst}
-use mathlib.Core.Bool.{not}
+use mathlib.Core.Path.{refl, sym, subst}
 use lib.Dec.{T}
-use lib.Ieee.{binary64, fits, isNan}
+use lib.Ieee.{binary64, fits}
 use Rattle.float.specs.Binary64.{sameBits}
-use Rattle.neighbors.proofs.SameBits.{no-nan, nan-left, nan-right}
+use Rattle.float.proofs.Special.{no-nan}
+use Rattle.neighbors.proofs.SameBits.{nan-left, nan-right}
 use Rattle.neighbors.proofs.places.same_bits.Statement.{statement}
 use Rattle.neighbors.proofs.places.same_bits.Tie as tie
 
@@ -16,10 +16,14 @@ held-b : (c : tie.Start) → T (fits binary64 (c .args .b))
 held-b c = subst T (sym (c .good .1 .0 .1)) tt
 
 returns : tie.Need-returns
-returns c = nan-left _ _ (held-a (c .before)) (held-b (c .before)) (c .if1 .taken)
+returns c =
+    let at-start = c .before in
+    nan-left _ _ (held-a at-start) (held-b at-start) (c .if1 .taken)
 
 returns-2 : tie.Need-returns-2
-returns-2 c = nan-right _ _ (held-a (c .before .before)) (held-b (c .before .before)) (c .before .if1 .left) (c .if2 .taken)
+returns-2 c =
+    let at-start = c .before .before in
+    nan-right _ _ (held-a at-start) (held-b at-start) (c .before .if1 .left) (c .if2 .taken)
 
 float-to-bits-result : tie.Need-float-to-bits-result
 float-to-bits-result c = no-nan _ (c .before .if1 .left)

@@ -11,7 +11,9 @@ same-bits-requires-2 : tie.Need-same-bits-requires-2
 same-bits-requires-2 c κs = search needs
 
 returns : tie.Need-returns
-returns c = both-same _ _ (c .before .before .same-bits .ensures) (c .before .if1 .taken) (c .same-bits2 .ensures)
+returns c =
+    let after-same-bits = c .before .before in
+    both-same _ _ (after-same-bits .same-bits .ensures) (c .before .if1 .taken) (c .same-bits2 .ensures)
 
 returns-2 : tie.Need-returns-2
 returns-2 c = first-differs _ _ (c .before .same-bits .ensures) (c .if1 .left)

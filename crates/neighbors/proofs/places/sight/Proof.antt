@@ -1,7 +1,7 @@
 -- `neighbors::places::sight` meets its contract.
 use native.Mathlib.Nat.{sub-zero}
 use native.Mathlib.Omega.{arith}
-use Rattle.neighbors.proofs.Distinct.{count-front, sight-again, sight-full, sight-new}
+use Rattle.neighbors.proofs.Laid.{count-front, sight-again, sight-full, sight-new}
 use borrow.Author.Needs.{needs}
 use Rattle.neighbors.proofs.places.sight.Statement.{statement}
 use Rattle.neighbors.proofs.places.sight.Tie as tie
@@ -34,7 +34,17 @@ slice-read-counts : tie.Need-slice-read-counts
 slice-read-counts c = search needs
 
 add-counts : tie.Need-add-counts
-add-counts c = record { fits = omega (arith, count-front (c .before .before .before .before .before .before .before .before .before .before .args .xs .now) (c .before .before .before .before .before .before .before .before .before .before .args .ys .now) (c .before .before .before .before .before .before .before .before .before .before .args .counts .now) (c .before .before .before .before .before .before .before .before .before .before .args .n) (c .before .before .before .before .before .before .before .before .before .before .pre .0) (c .before .before .before .before .before .before .before .before .before .before .pre .1) (c .before .before .before .before .before .before .before .before .before .before .pre .2) (c .before .before .place-of .result) (c .before .if1 .taken)) }
+add-counts c =
+    let after-place-of = c .before .before in
+    let at-start = after-place-of .before .before .before .before .before .before .before .before in
+    let args = at-start .args in
+    record {
+      fits = omega (
+        arith,
+        count-front (args .xs .now) (args .ys .now) (args .counts .now) (args .n) (at-start .pre .0) (at-start .pre .1)
+            (at-start .pre .2) (after-place-of .place-of .result) (c .before .if1 .taken),
+      );
+    }
 
 slice-write-counts : tie.Need-slice-write-counts
 slice-write-counts c = search needs
@@ -49,7 +59,11 @@ same-length-3 : tie.Need-same-length-3
 same-length-3 c = search needs
 
 returns : tie.Need-returns
-returns c = sight-again _ _ _ _ _ (c .before .before .before .before .before .before .before .before .before .before .pre .0) (c .before .before .before .before .before .before .before .before .before .before .pre .1) (c .before .before .before .before .before .before .before .before .before .before .pre .2) _ (rw (sub-zero (c .before .before .before .before .before .before .before .before .before .before .args .n)) at (c .before .before .place-of .ensures)) (c .before .if1 .taken)
+returns c =
+    let after-place-of = c .before .before in
+    let at-start = after-place-of .before .before .before .before .before .before .before .before in
+    sight-again _ _ _ _ _ (at-start .pre .0) (at-start .pre .1) (at-start .pre .2) _
+    (rw (sub-zero (at-start .args .n)) at (after-place-of .place-of .ensures)) (c .before .if1 .taken)
 
 add-result : tie.Need-add-result
 add-result c = search needs
@@ -61,7 +75,11 @@ same-length-5 : tie.Need-same-length-5
 same-length-5 c = search needs
 
 returns-2 : tie.Need-returns-2
-returns-2 c = sight-full _ _ _ _ _ (c .before .before .before .before .before .before .before .before .before .before .pre .0) (c .before .before .before .before .before .before .before .before .before .before .pre .1) (c .before .before .before .before .before .before .before .before .before .before .pre .2) _ (rw (sub-zero (c .before .before .before .before .before .before .before .before .before .before .args .n)) at (c .before .before .place-of .ensures)) (c .before .if1 .left) (c .if2 .taken)
+returns-2 c =
+    let after-place-of = c .before .before in
+    let at-start = after-place-of .before .before .before .before .before .before .before .before in
+    sight-full _ _ _ _ _ (at-start .pre .0) (at-start .pre .1) (at-start .pre .2) _
+    (rw (sub-zero (at-start .args .n)) at (after-place-of .place-of .ensures)) (c .before .if1 .left) (c .if2 .taken)
 
 mul-xs : tie.Need-mul-xs
 mul-xs c = search needs
@@ -94,7 +112,11 @@ same-length-8 : tie.Need-same-length-8
 same-length-8 c = search needs
 
 returns-3 : tie.Need-returns-3
-returns-3 c = sight-new _ _ _ _ _ (c .before .before .before .before .before .before .before .before .before .before .pre .0) (c .before .before .before .before .before .before .before .before .before .before .pre .1) (c .before .before .before .before .before .before .before .before .before .before .pre .2) _ (rw (sub-zero (c .before .before .before .before .before .before .before .before .before .before .args .n)) at (c .before .before .place-of .ensures)) (c .before .if1 .left) (c .if2 .left)
+returns-3 c =
+    let after-place-of = c .before .before in
+    let at-start = after-place-of .before .before .before .before .before .before .before .before in
+    sight-new _ _ _ _ _ (at-start .pre .0) (at-start .pre .1) (at-start .pre .2) _
+    (rw (sub-zero (at-start .args .n)) at (after-place-of .place-of .ensures)) (c .before .if1 .left) (c .if2 .left)
 
 pub sight-spec : {M : Type 1} → statement M
 sight-spec =

@@ -1,28 +1,41 @@
 -- `neighbors::weights::cell` meets its contract.
-use mathlib.Core.Path.{_≡_, sym, _∙_}
+use mathlib.Core.Path.{sym, _∙_}
+use Prim.Native.Nat.{_+_, _*_, _<_}
 use native.Mathlib.Omega.{arith}
 use lib.ListN.{length}
-use Rattle.distance.specs.Distance.{euclidean}
 use Rattle.neighbors.proofs.Cells.{row-before, few-cells, in-table, tabled-at}
 use Rattle.neighbors.proofs.Linked.{weight-sym, cell-same, cell-pair}
 use borrow.Author.Needs.{needs}
 use Rattle.neighbors.proofs.weights.cell.Statement.{statement}
 use Rattle.neighbors.proofs.weights.cell.Tie as tie
 
+-- The cell on the other side of the diagonal, in a table of at most 512 columns.
+read-few : (c : tie.Then1) → let args = c .before .before .before .before .before .args in args .j * length (args .xs .now) + args .i < 262144
+read-few c =
+    let at-start = c .before .before .before .before .before in
+    few-cells _ _ _ (at-start .pre .1 .0 .few) (at-start .pre .0) (at-start .pre .1 .1)
+
 mul-result : tie.Need-mul-result
-mul-result c = record { fits = omega (arith, few-cells (length (c .before .before .before .before .before .args .xs .now)) (c .before .before .before .before .before .args .j) (c .before .before .before .before .before .args .i) (c .before .before .before .before .before .pre .0 .few) (c .before .before .before .before .before .pre .2) (c .before .before .before .before .before .pre .1)) }
+mul-result c = record { fits = omega (arith, read-few c) }
 
 add-result : tie.Need-add-result
-add-result c = record { fits = omega (arith, few-cells (length (c .before .before .before .before .before .args .xs .now)) (c .before .before .before .before .before .args .j) (c .before .before .before .before .before .args .i) (c .before .before .before .before .before .pre .0 .few) (c .before .before .before .before .before .pre .2) (c .before .before .before .before .before .pre .1)) }
+add-result c = record { fits = omega (arith, read-few c) }
 
 mul-result-2 : tie.Need-mul-result-2
-mul-result-2 c = record { fits = omega (arith, few-cells (length (c .before .before .before .before .before .args .xs .now)) (c .before .before .before .before .before .args .j) (c .before .before .before .before .before .args .i) (c .before .before .before .before .before .pre .0 .few) (c .before .before .before .before .before .pre .2) (c .before .before .before .before .before .pre .1)) }
+mul-result-2 c = record { fits = omega (arith, read-few c) }
 
 shared-slice-read-result : tie.Need-shared-slice-read-result
-shared-slice-read-result c = omega (arith, in-table (length (c .before .before .before .before .before .before .args .xs .now)) (c .before .before .before .before .before .before .args .j) (c .before .before .before .before .before .before .args .i) (c .before .before .before .before .before .before .pre .2) (c .before .before .before .before .before .before .pre .1), c .before .before .before .before .before .before .pre .0 .cells)
+shared-slice-read-result c =
+    let at-start = c .before .before .before .before .before .before in
+    let args = at-start .args in
+    omega (arith, in-table (length (args .xs .now)) (args .j) (args .i) (at-start .pre .0) (at-start .pre .1 .1), at-start .pre .1 .0 .cells)
 
 returns : tie.Need-returns
-returns c = tabled-at _ _ _ _ _ _ (c .before .before .before .before .before .before .pre .3) (c .before .before .before .before .before .before .pre .2) (c .before .before .before .before .before .before .pre .1) (omega (arith, row-before (length (c .before .before .before .before .before .before .args .xs .now)) (c .before .before .before .before .before .before .args .j) (c .before .before .before .before .before .before .args .i) (c .before .if1 .taken))) ∙ weight-sym _ _ _ _ _
+returns c =
+    let at-start = c .before .before .before .before .before .before in
+    let args = at-start .args in
+    tabled-at _ _ _ _ _ _ (at-start .pre .1 .2) (at-start .pre .0) (at-start .pre .1 .1)
+    (omega (arith, row-before (length (args .xs .now)) (args .j) (args .i) (c .before .if1 .taken))) ∙ weight-sym _ _ _ _ _
 
 returns-2 : tie.Need-returns-2
 returns-2 c = cell-same _ _ _ _ _ _ _ (c .if2 .taken)
@@ -67,7 +80,12 @@ pair-weight-requires : tie.Need-pair-weight-requires
 pair-weight-requires c κs = search needs
 
 returns-3 : tie.Need-returns-3
-returns-3 c = cell-pair _ _ _ _ _ _ _ (c .before .before .before .before .before .before .before .before .before .before .before .before .before .pre .0 .ordinates) (c .before .before .before .before .before .before .before .before .before .before .before .before .before .pre .0 .counts) (c .before .before .before .before .before .before .before .before .before .before .before .before .before .pre .1) (c .before .before .before .before .before .before .before .before .before .before .before .before .before .pre .2) (c .before .before .before .before .before .before .before .before .if1 .left) (c .before .before .before .before .before .before .before .if2 .left) (c .pair-weight .ensures)
+returns-3 c =
+    let at-if2 = c .before .before .before .before .before .before .before in
+    let at-if1 = at-if2 .before in
+    let at-start = at-if1 .before .before .before .before .before in
+    cell-pair _ _ _ _ _ _ _ (at-start .pre .1 .0 .ordinates) (at-start .pre .1 .0 .counts) (at-start .pre .1 .1) (at-start .pre .0)
+    (at-if1 .if1 .left) (at-if2 .if2 .left) (c .pair-weight .ensures)
 
 pub cell-spec : {M : Type 1} → statement M
 cell-spec =

@@ -15,10 +15,15 @@ int-to-float-result : tie.Need-int-to-float-result
 int-to-float-result c = search needs
 
 returns : tie.Need-returns
-returns c = pair-links euclidean _ _ _ _ _ (c .before .before .before .distance .ensures .equation) (c .before .before .if1 .taken) (c .before .larger .ensures)
+returns c =
+    let at-if1 = c .before .before in
+    let after-distance = at-if1 .before in
+    pair-links euclidean _ _ _ _ _ (after-distance .distance .ensures .equation) (at-if1 .if1 .taken) (c .before .larger .ensures)
 
 returns-2 : tie.Need-returns-2
-returns-2 c = pair-apart euclidean _ _ (c .before .before .args .c) (c .before .before .args .d) _ (c .before .distance .ensures .equation) (c .if1 .left)
+returns-2 c =
+    let at-start = c .before .before in
+    pair-apart euclidean _ _ (at-start .args .c) (at-start .args .d) _ (c .before .distance .ensures .equation) (c .if1 .left)
 
 pub pair-weight-spec : {M : Type 1} → statement M
 pair-weight-spec =

@@ -68,7 +68,11 @@ put-digits-returns-2 : (t : ℕ) → put-digits-lts.Need-returns-2 (
   put-digits-below t,
   put-digits.Post,
 ) (put-digits-at t) put-digits.Post
-put-digits-returns-2 t c = digits-one _ _ _ _ (c .before .before .before .before .before .if1 .left) (c .before .before .before .before .if2 .taken) (c .before .before .push .ensures)
+put-digits-returns-2 t c =
+    let after-push = c .before .before in
+    let at-if2 = after-push .before .before in
+    let at-if1 = at-if2 .before in
+    digits-one _ _ _ _ (at-if1 .if1 .left) (at-if2 .if2 .taken) (after-push .push .ensures)
 
 put-digits-sub-put-digits : (t : ℕ) → put-digits-lts.Need-sub-put-digits (
   push-reads.Asked,
@@ -124,7 +128,12 @@ put-digits-returns-3 : (t : ℕ) → put-digits-lts.Need-returns-3 (
   put-digits-below t,
   put-digits.Post,
 ) (put-digits-at t) put-digits.Post
-put-digits-returns-3 t c = digits-more _ _ _ _ _ (c .before .before .before .before .before .before .before .before .before .if1 .left) (c .before .before .before .before .before .before .before .before .if2 .left) (c .before .before .before .before .before .before .put-digits .ensures) (c .before .before .push2 .ensures)
+put-digits-returns-3 t c =
+    let after-push2 = c .before .before in
+    let after-put-digits = after-push2 .before .before .before .before in
+    let at-if2 = after-put-digits .before .before in
+    let at-if1 = at-if2 .before in
+    digits-more _ _ _ _ _ (at-if1 .if1 .left) (at-if2 .if2 .left) (after-put-digits .put-digits .ensures) (after-push2 .push2 .ensures)
 
 pub +put-digits-spec : {M : Type 1} → statement M
 +put-digits-spec = close μ-put-digits λ t. put-digits-lts.spec (

@@ -1,7 +1,7 @@
 -- `print::bytes::push` meets its contract.
 use mathlib.Core.Path.{sym}
 use borrow.Author.Tests.{lt-ltb, le-ltb}
-use Rattle.print.specs.Written.{push}
+use Rattle.print.specs.Steps.{push}
 use borrow.Author.Needs.{needs}
 use Rattle.print.proofs.bytes.push.Statement.{statement}
 use Rattle.print.proofs.bytes.push.Tie as tie

@@ -3,7 +3,7 @@ use borrow.Author.Needs.{needs}
 use mathlib.Core.Path.{_≡_, _∙_}
 use Prim.Native.Nat.{_-_}
 use lib.ListN.{length, drop}
-use Rattle.print.specs.Written.{out as Written·out, pushes}
+use Rattle.print.specs.Steps.{out as Written·out, pushes}
 use Rattle.print.proofs.Pushes.{push-on, push-end}
 use Rattle.print.proofs.bytes.push_all.Statement.{statement}
 use Rattle.print.proofs.bytes.push_all.Tie as tie
@@ -30,7 +30,13 @@ loop-less : tie.Need-loop-less Inv-loop μ-loop
 loop-less c = search needs
 
 loop-again : tie.Need-loop-again Inv-loop μ-loop
-loop-again c = (push-on _ _ _ _ (c .before .before .before .before .before .loop-test .taken) (c .before .before .push .ensures) (c .before .before .before .before .before .before .loop .inv .0), c .before .before .push .kept .0 ∙ c .before .before .before .before .before .before .loop .inv .1)
+loop-again c =
+    let after-push = c .before .before in
+    let at-test = after-push .before .before .before in
+    let at-loop = at-test .before in (
+      push-on _ _ _ _ (at-test .loop-test .taken) (after-push .push .ensures) (at-loop .loop .inv .0),
+      after-push .push .kept .0 ∙ at-loop .loop .inv .1,
+    )
 
 same-length : tie.Need-same-length Inv-loop μ-loop
 same-length c = search needs

@@ -12,7 +12,9 @@ same-length c = search needs
 
 returns : tie.Need-returns
 unfolding decimal
-returns c = c .before .before .put-digits .ensures
+returns c =
+    let after-put-digits = c .before .before in
+    after-put-digits .put-digits .ensures
 
 pub put-number-spec : {M : Type 1} → statement M
 put-number-spec = tie.close (tie.spec put-digits-requires same-length returns)

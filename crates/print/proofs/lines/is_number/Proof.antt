@@ -1,7 +1,6 @@
 -- `print::lines::is_number` meets its contract.
 use mir.Facts.{toZ-ofZ}
 use Rattle.print.proofs.LabelLines.{at-least-0}
-use borrow.Author.Needs.{needs}
 use Rattle.print.proofs.lines.is_number.Statement.{statement}
 use Rattle.print.proofs.lines.is_number.Tie as tie
 

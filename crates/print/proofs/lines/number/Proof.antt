@@ -1,7 +1,6 @@
 -- `print::lines::number` meets its contract.
 use mir.Facts.{toZ-ofZ}
 use Rattle.print.proofs.LabelLines.{as-number}
-use borrow.Author.Needs.{needs}
 use Rattle.print.proofs.lines.number.Statement.{statement}
 use Rattle.print.proofs.lines.number.Tie as tie
 

@@ -29,7 +29,20 @@ same-length c = search needs
 
 returns : tie.Need-returns
 unfolding line
-returns c = and-then _ _ _ _ _ (c .before .before .before .before .before .before .before .before .before .before .before .before .before .before .before .before .before .before .before .before .before .before .put-number .ensures) (and-push _ _ _ _ _ (c .before .before .before .before .before .before .before .before .before .before .before .before .before .before .before .before .before .before .push .ensures) (and-then _ _ _ _ _ (c .before .before .before .before .before .before .before .before .before .before .before .before .before .before .put-number2 .ensures) (and-push _ _ _ _ _ (c .before .before .before .before .before .before .before .before .before .before .push2 .ensures) (and-then _ _ _ _ _ (rw (toZ-ofZ (c .before .before .before .before .before .before .before .before .before .before .before .before .before .before .before .before .before .before .before .before .before .before .before .before .before .fits .l)) at (c .before .before .before .before .before .before .put-label .ensures)) (one _ _ _ (c .before .before .push3 .ensures))))))
+returns c =
+    let after-push3 = c .before .before in
+    let after-put-label = after-push3 .before .before .before .before in
+    let after-push2 = after-put-label .before .before .before .before in
+    let after-put-number2 = after-push2 .before .before .before .before in
+    let after-push = after-put-number2 .before .before .before .before in
+    let after-put-number = after-push .before .before .before .before in
+    let at-fits = after-put-number .before .before .before in
+    and-then _ _ _ _ _ (after-put-number .put-number .ensures)
+    (and-push _ _ _ _ _ (after-push .push .ensures)
+    (and-then _ _ _ _ _ (after-put-number2 .put-number2 .ensures)
+    (and-push _ _ _ _ _ (after-push2 .push2 .ensures)
+    (and-then _ _ _ _ _ (rw (toZ-ofZ (at-fits .fits .l)) at (after-put-label .put-label .ensures))
+    (one _ _ _ (after-push3 .push3 .ensures))))))
 
 pub put-line-spec : {M : Type 1} → statement M
 put-line-spec =

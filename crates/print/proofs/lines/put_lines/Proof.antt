@@ -4,14 +4,16 @@ use Prim.Native.Nat.{_+_, _-_, _≤_}
 use native.Mathlib.Omega.{arith}
 use lib.ListN.{length, drop}
 use Rattle.print.specs.Lines.{lines}
-use Rattle.print.specs.Written.{out as Written·out, pushes}
+use Rattle.print.specs.Steps.{out as Written·out, pushes}
 use Rattle.print.proofs.LabelLines.{lines-on, lines-end}
 use borrow.Author.Needs.{needs}
 use Rattle.print.proofs.lines.put_lines.Statement.{statement}
 use Rattle.print.proofs.lines.put_lines.Tie as tie
 
 abbrev Inv-loop : tie.InvT-loop
-Inv-loop out₀ at lens labels k₀ t₀ i₀ out k t i = (pushes (Written·out out k) (lines t (drop t lens) (drop i labels)) ≡ pushes (Written·out out₀ k₀) (lines 0 lens labels)) × (i ≤ length labels) × (length out ≡ length out₀)
+Inv-loop out₀ at lens labels k₀ t₀ i₀ out k t i =
+    (pushes (Written·out out k) (lines t (drop t lens) (drop i labels)) ≡ pushes (Written·out out₀ k₀) (lines 0 lens labels)) × (i ≤ length labels)
+    × (length out ≡ length out₀)
 
 abbrev μ-loop : tie.MeasureT-loop
 μ-loop out₀ at lens labels k₀ t₀ i₀ out k t i = length lens - t
@@ -26,7 +28,9 @@ shared-slice-read-least : tie.Need-shared-slice-read-least Inv-loop μ-loop
 shared-slice-read-least c = search needs
 
 cast-least : tie.Need-cast-least Inv-loop μ-loop
-cast-least c = omega (arith, c .shared-slice-known2 .given (c .before .before .loop .t))
+cast-least c =
+    let at-loop = c .before .before in
+    omega (arith, c .shared-slice-known2 .given (at-loop .loop .t))
 
 sub-least : tie.Need-sub-least Inv-loop μ-loop
 sub-least c = search needs
@@ -59,7 +63,18 @@ loop-less : tie.Need-loop-less Inv-loop μ-loop
 loop-less c = search needs
 
 loop-again : tie.Need-loop-again Inv-loop μ-loop
-loop-again c = (lines-on _ _ (c .before .before .before .before .before .before .before .before .before .before .before .args .lens .now) (c .before .before .before .before .before .before .before .before .before .before .before .args .labels .now) (c .before .before .before .before .before .before .before .before .loop .t) (c .before .before .before .before .before .before .before .before .loop .i) (c .before .before .before .before .before .least .result) (c .before .before .before .before .before .before .before .before .loop .i + c .before .before .before .before .before .least .result - c .before .before .before .before .before .before .before .before .loop .i) (c .before .before .before .before .before .before .before .loop-test .taken) (c .before .before .before .before .before .least .ensures) (c .before .before .put-trace .ensures) (omega arith) (c .before .before .before .before .before .before .before .before .loop .inv .0), omega (arith, c .before .before .before .before .before .least .ensures), c .before .before .put-trace .kept .0 ∙ c .before .before .before .before .before .before .before .before .loop .inv .2)
+loop-again c =
+    let after-put-trace = c .before .before in
+    let after-least = after-put-trace .before .before .before in
+    let at-test = after-least .before .before in
+    let at-loop = at-test .before in
+    let at-start = at-loop .before .before .before in (
+      lines-on _ _ (at-start .args .lens .now) (at-start .args .labels .now) (at-loop .loop .t) (at-loop .loop .i) (after-least .least .result)
+          (at-loop .loop .i + after-least .least .result - at-loop .loop .i) (at-test .loop-test .taken) (after-least .least .ensures)
+          (after-put-trace .put-trace .ensures) (omega arith) (at-loop .loop .inv .0),
+      omega (arith, after-least .least .ensures),
+      after-put-trace .put-trace .kept .0 ∙ at-loop .loop .inv .2,
+    )
 
 same-length : tie.Need-same-length Inv-loop μ-loop
 same-length c = search needs

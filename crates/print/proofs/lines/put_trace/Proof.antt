@@ -7,7 +7,7 @@ use mir.Facts.{toZ-ofZ}
 use mir.Syntax.{w32}
 use borrow.Author.Needs.{sfits-of, needs}
 use Rattle.print.specs.Lines.{traceLines}
-use Rattle.print.specs.Written.{out as Written·out, pushes}
+use Rattle.print.specs.Steps.{out as Written·out, pushes}
 use Rattle.print.proofs.LabelLines.{trace-on, trace-end}
 use Rattle.print.proofs.lines.put_trace.Statement.{statement}
 use Rattle.print.proofs.lines.put_trace.Tie as tie
@@ -37,7 +37,20 @@ loop-less : tie.Need-loop-less Inv-loop μ-loop
 loop-less c = search needs
 
 loop-again : tie.Need-loop-again Inv-loop μ-loop
-loop-again c = (trace-on _ _ _ _ _ (c .before .before .before .before .before .loop-test .taken) (rw (toZ-ofZ {w = w32} {z = getD (c .before .before .before .before .before .before .before .before .args .labels .now) (c .before .before .before .before .before .before .loop .f) (pos 0)} (sfits-of (c .before .before .before .put-line-arg2 .given))) at (c .before .before .put-line .ensures)) (c .before .before .before .before .before .before .loop .inv .0), c .before .before .put-line .kept .0 ∙ c .before .before .before .before .before .before .loop .inv .1)
+loop-again c =
+    let after-put-line = c .before .before in
+    let at-put-line-arg2 = after-put-line .before in
+    let at-test = at-put-line-arg2 .before .before in
+    let at-loop = at-test .before in
+    let at-start = at-loop .before .before in (
+      trace-on _ _ _ _ _ (at-test .loop-test .taken)
+          (rw
+          (toZ-ofZ {w = w32} {z = getD (at-start .args .labels .now) (at-loop .loop .f) (pos 0)}
+          (sfits-of (at-put-line-arg2 .put-line-arg2 .given)))
+          at (after-put-line .put-line .ensures))
+          (at-loop .loop .inv .0),
+      after-put-line .put-line .kept .0 ∙ at-loop .loop .inv .1,
+    )
 
 same-length : tie.Need-same-length Inv-loop μ-loop
 same-length c = search needs

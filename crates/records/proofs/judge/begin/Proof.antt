@@ -1,5 +1,5 @@
 -- `records::judge::begin` meets its contract.
-use Rattle.records.specs.Judge.{begun}
+use Rattle.records.specs.StepsJudge.{begun}
 use borrow.Author.Needs.{needs}
 use Rattle.records.proofs.judge.begin.Statement.{statement}
 use Rattle.records.proofs.judge.begin.Tie as tie
@@ -15,7 +15,9 @@ no-times-requires c κs = search needs
 
 returns : tie.Need-returns
 unfolding begun
-returns c = rw (c .no-times .ensures, c .before .first-of .ensures, c .before .before .refuse-if .ensures)
+returns c =
+    let after-refuse-if = c .before .before in
+    rw (c .no-times .ensures, c .before .first-of .ensures, after-refuse-if .refuse-if .ensures)
 
 pub begin-spec : {M : Type 1} → statement M
 begin-spec = tie.close (tie.spec refuse-if-requires first-of-requires no-times-requires returns)

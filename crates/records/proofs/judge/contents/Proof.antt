@@ -1,5 +1,5 @@
 -- `records::judge::contents` meets its contract.
-use Rattle.records.specs.Judge.{contents}
+use Rattle.records.specs.StepsJudge.{contents}
 use borrow.Author.Needs.{needs}
 use Rattle.records.proofs.judge.contents.Statement.{statement}
 use Rattle.records.proofs.judge.contents.Tie as tie
@@ -15,7 +15,9 @@ first-of-requires-2 c κs = search needs
 
 returns : tie.Need-returns
 unfolding contents
-returns c = rw (c .first-of2 .ensures, c .before .first-of .ensures, c .before .before .refuse-if .ensures)
+returns c =
+    let after-refuse-if = c .before .before in
+    rw (c .first-of2 .ensures, c .before .first-of .ensures, after-refuse-if .refuse-if .ensures)
 
 pub contents-spec : {M : Type 1} → statement M
 contents-spec =

@@ -1,5 +1,5 @@
 -- `records::judge::end` meets its contract.
-use Rattle.records.specs.Judge.{ended}
+use Rattle.records.specs.StepsJudge.{ended}
 use borrow.Author.Needs.{needs}
 use Rattle.records.proofs.judge.end.Statement.{statement}
 use Rattle.records.proofs.judge.end.Tie as tie

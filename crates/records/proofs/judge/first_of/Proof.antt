@@ -1,6 +1,6 @@
 -- `records::judge::first_of` meets its contract.
 use mathlib.Core.Path.{sym}
-use Rattle.tracks.proofs.Turns.{says, first-refused, first-accepted}
+use Rattle.settings.proofs.Turns.{says, first-refused, first-accepted}
 use borrow.Author.Needs.{needs}
 use Rattle.records.proofs.judge.first_of.Statement.{statement}
 use Rattle.records.proofs.judge.first_of.Tie as tie

@@ -1,6 +1,6 @@
 -- `records::judge::no_times` meets its contract.
 use lib.Ieee.{ofBits}
-use Rattle.records.specs.Judge.{noTimes}
+use Rattle.records.specs.StepsJudge.{noTimes}
 use borrow.Author.Needs.{needs}
 use Rattle.records.proofs.judge.no_times.Statement.{statement}
 use Rattle.records.proofs.judge.no_times.Tie as tie

@@ -1,6 +1,6 @@
 -- `records::judge::pass` meets its contract.
-use Rattle.tracks.specs.Traces.{checkFixSize}
-use Rattle.records.specs.Judge.{passed}
+use Rattle.checks.specs.Traces.{checkFixSize}
+use Rattle.records.specs.StepsJudge.{passed}
 use borrow.Author.Needs.{needs}
 use Rattle.records.proofs.judge.pass.Statement.{statement}
 use Rattle.records.proofs.judge.pass.Tie as tie
@@ -32,8 +32,22 @@ with-time-requires c κs = search needs
 returns : tie.Need-returns
 unfolding passed checkFixSize
 returns c =
-    let d = c .before .before .before in
-    rw (c .with-time .ensures, c .before .less .ensures, c .before .before .first-of2 .ensures, d .refuse-if .ensures, d .before .in-limit .ensures, d .before .before .first-of .ensures, d .before .before .before .check-fix .ensures, d .before .before .before .before .both .ensures)
+    let after-first-of2 = c .before .before in
+    let after-refuse-if = after-first-of2 .before in
+    let after-in-limit = after-refuse-if .before in
+    let after-first-of = after-in-limit .before in
+    let after-check-fix = after-first-of .before in
+    let after-both = after-check-fix .before in
+    rw (
+      c .with-time .ensures,
+      c .before .less .ensures,
+      after-first-of2 .first-of2 .ensures,
+      after-refuse-if .refuse-if .ensures,
+      after-in-limit .in-limit .ensures,
+      after-first-of .first-of .ensures,
+      after-check-fix .check-fix .ensures,
+      after-both .both .ensures,
+    )
 
 pub pass-spec : {M : Type 1} → statement M
 pass-spec =

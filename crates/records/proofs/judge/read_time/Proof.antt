@@ -1,6 +1,6 @@
 -- `records::judge::read_time` meets its contract.
 use borrow.Author.Tests.{eq-eqb, ne-eqb}
-use Rattle.tracks.specs.Columns.{readTime}
+use Rattle.trace.specs.Trace.{readTime}
 use Rattle.records.proofs.judge.read_time.Statement.{statement}
 use Rattle.records.proofs.judge.read_time.Tie as tie
 

@@ -1,5 +1,5 @@
 -- `records::judge::refuse_if` meets its contract.
-use Rattle.tracks.specs.Checks.{refuseIf}
+use Rattle.settings.specs.Checks.{refuseIf}
 use Rattle.records.proofs.judge.refuse_if.Statement.{statement}
 use Rattle.records.proofs.judge.refuse_if.Tie as tie
 

@@ -12,7 +12,10 @@ begin-requires : tie.Need-begin-requires
 begin-requires c κs = search needs
 
 returns : tie.Need-returns
-returns c = start-none (c .before .before .before .before .args .lens .now) (c .before .if1 .taken) (c .before .before .no-times .ensures) (c .begin .ensures)
+returns c =
+    let after-no-times = c .before .before in
+    let at-start = after-no-times .before .before in
+    start-none (at-start .args .lens .now) (c .before .if1 .taken) (after-no-times .no-times .ensures) (c .begin .ensures)
 
 shared-slice-read-begin : tie.Need-shared-slice-read-begin
 shared-slice-read-begin c = search needs
@@ -24,7 +27,10 @@ begin-requires-2 : tie.Need-begin-requires-2
 begin-requires-2 c κs = search needs
 
 returns-2 : tie.Need-returns-2
-returns-2 c = start-some (c .before .before .before .before .before .args .lens .now) (c .before .before .before .no-times .ensures) (c .begin2 .ensures)
+returns-2 c =
+    let after-no-times = c .before .before .before in
+    let at-start = after-no-times .before .before in
+    start-some (at-start .args .lens .now) (after-no-times .no-times .ensures) (c .begin2 .ensures)
 
 pub start-spec : {M : Type 1} → statement M
 start-spec =

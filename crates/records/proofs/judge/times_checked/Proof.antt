@@ -1,5 +1,5 @@
 -- `records::judge::times_checked` meets its contract.
-use Rattle.records.specs.Judge.{timesChecked}
+use Rattle.records.specs.StepsJudge.{timesChecked}
 use borrow.Author.Needs.{needs}
 use Rattle.records.proofs.judge.times_checked.Statement.{statement}
 use Rattle.records.proofs.judge.times_checked.Tie as tie
@@ -18,7 +18,10 @@ first-of-requires c κs = search needs
 
 returns : tie.Need-returns
 unfolding timesChecked
-returns c = rw (c .first-of .ensures, c .before .refuse-if2 .ensures, c .before .before .before .refuse-if .ensures, c .before .before .before .before .both .ensures)
+returns c =
+    let after-refuse-if = c .before .before .before in
+    let after-both = after-refuse-if .before in
+    rw (c .first-of .ensures, c .before .refuse-if2 .ensures, after-refuse-if .refuse-if .ensures, after-both .both .ensures)
 
 pub times-checked-spec : {M : Type 1} → statement M
 times-checked-spec =

@@ -1,5 +1,5 @@
 -- `records::judge::with_time` meets its contract.
-use Rattle.records.specs.Judge.{withTime}
+use Rattle.records.specs.StepsJudge.{withTime}
 use borrow.Author.Needs.{needs}
 use Rattle.records.proofs.judge.with_time.Statement.{statement}
 use Rattle.records.proofs.judge.with_time.Tie as tie
@@ -21,7 +21,11 @@ read-time-requires c κs = search needs
 
 returns : tie.Need-returns
 unfolding withTime
-returns c = rw (c .read-time .ensures, c .before .both3 .ensures, c .before .before .above .ensures, c .before .before .before .both2 .ensures, c .before .before .before .before .before .both .ensures)
+returns c =
+    let after-above = c .before .before in
+    let after-both2 = after-above .before in
+    let after-both = after-both2 .before .before in
+    rw (c .read-time .ensures, c .before .both3 .ensures, after-above .above .ensures, after-both2 .both2 .ensures, after-both .both .ensures)
 
 pub with-time-spec : {M : Type 1} → statement M
 with-time-spec =

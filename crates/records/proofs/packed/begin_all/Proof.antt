@@ -1,6 +1,6 @@
 -- `records::packed::begin_all` meets its contract.
 use mathlib.Core.Path.{ap, _∙_}
-use Rattle.records.specs.Judge.{packed}
+use Rattle.records.specs.StepsJudge.{packed}
 use borrow.Author.Needs.{needs}
 use Rattle.records.proofs.packed.begin_all.Statement.{statement}
 use Rattle.records.proofs.packed.begin_all.Tie as tie

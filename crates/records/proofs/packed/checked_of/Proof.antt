@@ -1,6 +1,6 @@
 -- `records::packed::checked_of` meets its contract.
 use borrow.Author.Tests.{ne-eqb}
-use Rattle.records.specs.Judge.{checkedOf}
+use Rattle.records.specs.StepsJudge.{checkedOf}
 use Rattle.records.proofs.packed.checked_of.Statement.{statement}
 use Rattle.records.proofs.packed.checked_of.Tie as tie
 

@@ -1,5 +1,5 @@
 -- `records::packed::pack` meets its contract.
-use Rattle.records.specs.Judge.{packed}
+use Rattle.records.specs.StepsJudge.{packed}
 use borrow.Author.Needs.{needs}
 use Rattle.records.proofs.packed.pack.Statement.{statement}
 use Rattle.records.proofs.packed.pack.Tie as tie
@@ -18,7 +18,10 @@ trace-in-requires-2 c κs = search needs
 
 returns : tie.Need-returns
 unfolding packed
-returns c = rw (c .trace-in2 .ensures, c .before .number-in2 .ensures, c .before .before .trace-in .ensures, c .before .before .before .number-in .ensures)
+returns c =
+    let after-trace-in = c .before .before in
+    let after-number-in = after-trace-in .before in
+    rw (c .trace-in2 .ensures, c .before .number-in2 .ensures, after-trace-in .trace-in .ensures, after-number-in .number-in .ensures)
 
 pub pack-spec : {M : Type 1} → statement M
 pack-spec =

@@ -13,7 +13,9 @@ pack-requires : tie.Need-pack-requires
 pack-requires c κs = search needs
 
 returns : tie.Need-returns
-returns c = rw (← c .before .before .unpack .ensures, ← c .before .step .ensures) (c .pack .ensures)
+returns c =
+    let after-unpack = c .before .before in
+    rw (← after-unpack .unpack .ensures, ← c .before .step .ensures) (c .pack .ensures)
 
 pub take-one-spec : {M : Type 1} → statement M
 take-one-spec = tie.close (tie.spec unpack-requires step-requires pack-requires returns)

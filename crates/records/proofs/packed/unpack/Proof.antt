@@ -1,5 +1,5 @@
 -- `records::packed::unpack` meets its contract.
-use Rattle.records.specs.Judge.{unpacked}
+use Rattle.records.specs.StepsJudge.{unpacked}
 use borrow.Author.Needs.{needs}
 use Rattle.records.proofs.packed.unpack.Statement.{statement}
 use Rattle.records.proofs.packed.unpack.Tie as tie

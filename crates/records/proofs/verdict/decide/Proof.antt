@@ -1,6 +1,6 @@
 -- `records::verdict::decide` meets its contract.
-use Rattle.tracks.proofs.Turns.{says}
-use Rattle.records.specs.Judge.{verdictBy}
+use Rattle.settings.proofs.Turns.{says}
+use Rattle.records.specs.StepsJudge.{verdictBy}
 use borrow.Author.Needs.{needs}
 use Rattle.records.proofs.verdict.decide.Statement.{statement}
 use Rattle.records.proofs.verdict.decide.Tie as tie
@@ -16,11 +16,17 @@ is-refused-requires c κs = search needs
 
 returns : tie.Need-returns
 unfolding verdictBy
-returns c = rw (← c .before .before .before .unpack .ensures, ← c .before .before .checks .ensures, says (c .before .is-refused .ensures) (c .if1 .taken))
+returns c =
+    let after-checks = c .before .before in
+    let after-unpack = after-checks .before in
+    rw (← after-unpack .unpack .ensures, ← after-checks .checks .ensures, says (c .before .is-refused .ensures) (c .if1 .taken))
 
 returns-2 : tie.Need-returns-2
 unfolding verdictBy
-returns-2 c = rw (← c .before .before .before .unpack .ensures, ← c .before .before .checks .ensures, says (c .before .is-refused .ensures) (c .if1 .left))
+returns-2 c =
+    let after-checks = c .before .before in
+    let after-unpack = after-checks .before in
+    rw (← after-unpack .unpack .ensures, ← after-checks .checks .ensures, says (c .before .is-refused .ensures) (c .if1 .left))
 
 pub decide-spec : {M : Type 1} → statement M
 decide-spec =

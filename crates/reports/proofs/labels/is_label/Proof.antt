@@ -1,6 +1,6 @@
 -- `reports::labels::is_label` meets its contract.
 use mir.Facts.{toZ-ofZ}
-use Rattle.events.proofs.Labels.{as-index}
+use Rattle.lists.proofs.Signed.{as-index}
 use Rattle.reports.proofs.Upward.{not-label, as-label}
 use Rattle.reports.proofs.labels.is_label.Statement.{statement}
 use Rattle.reports.proofs.labels.is_label.Tie as tie
@@ -9,10 +9,14 @@ returns : tie.Need-returns
 returns c = not-label _ _ (rw (toZ-ofZ (c .before .fits .k)) at (c .if1 .taken))
 
 cast-result : tie.Need-cast-result
-cast-result c = rw (toZ-ofZ (c .before .fits .k)) (as-index _ (rw (toZ-ofZ (c .before .fits .k)) at (c .if1 .left)) (c .before .fits .k))
+cast-result c =
+    let at-fits = c .before in
+    rw (toZ-ofZ (at-fits .fits .k)) (as-index _ (rw (toZ-ofZ (at-fits .fits .k)) at (c .if1 .left)) (at-fits .fits .k))
 
 returns-2 : tie.Need-returns-2
-returns-2 c = rw (toZ-ofZ (c .before .fits .k)) (as-label _ _ (rw (toZ-ofZ (c .before .fits .k)) at (c .if1 .left)))
+returns-2 c =
+    let at-fits = c .before in
+    rw (toZ-ofZ (at-fits .fits .k)) (as-label _ _ (rw (toZ-ofZ (at-fits .fits .k)) at (c .if1 .left)))
 
 pub is-label-spec : {M : Type 1} → statement M
 is-label-spec = tie.close (tie.spec returns cast-result returns-2)

@@ -37,10 +37,18 @@ loop-less : tie.Need-loop-less Inv-loop μ-loop
 loop-less c = search needs
 
 loop-again : tie.Need-loop-again Inv-loop μ-loop
-loop-again c = count-on (c .before .before .before .before .before .args .labels .now) (c .before .before .before .before .loop .m) (c .before .before .before .before .loop .i) (c .before .before .before .before .loop .inv) (c .before .before .before .loop-test .taken) (rw (toZ-ofZ (sfits-of (c .before .before .label-end-arg .given))) at (c .before .label-end .ensures)) (c .larger .ensures)
+loop-again c =
+    let at-label-end-arg = c .before .before in
+    let at-test = at-label-end-arg .before in
+    let at-loop = at-test .before in
+    let at-start = at-loop .before in
+    count-on (at-start .args .labels .now) (at-loop .loop .m) (at-loop .loop .i) (at-loop .loop .inv) (at-test .loop-test .taken)
+    (rw (toZ-ofZ (sfits-of (at-label-end-arg .label-end-arg .given))) at (c .before .label-end .ensures)) (c .larger .ensures)
 
 returns : tie.Need-returns Inv-loop μ-loop
-returns c = count-end (c .before .before .args .labels .now) _ _ (c .before .loop .inv) (c .loop-test .left)
+returns c =
+    let at-start = c .before .before in
+    count-end (at-start .args .labels .now) _ _ (c .before .loop .inv) (c .loop-test .left)
 
 pub label-count-spec : {M : Type 1} → statement M
 label-count-spec =

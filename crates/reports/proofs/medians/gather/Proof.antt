@@ -16,7 +16,10 @@ abbrev μ-loop : tie.MeasureT-loop
 μ-loop labels vs l group₀ n₀ i₀ group n i = length labels - i
 
 loop-holds : tie.Need-loop-holds Inv-loop μ-loop
-loop-holds c = (gather-start (c .before .before .args .l) (c .before .before .args .labels .now) (c .before .before .args .vs .now) (c .before .before .args .group .now), refl)
+loop-holds c =
+    let at-start = c .before .before in
+    let args = at-start .args in
+    (gather-start (args .l) (args .labels .now) (args .vs .now) (args .group .now), refl)
 
 mul-take-in : tie.Need-mul-take-in Inv-loop μ-loop
 mul-take-in c = search needs
@@ -31,7 +34,9 @@ shared-slice-read-take-in : tie.Need-shared-slice-read-take-in Inv-loop μ-loop
 shared-slice-read-take-in c = search needs
 
 take-in-requires : tie.Need-take-in-requires Inv-loop μ-loop
-take-in-requires c κs = (omega arith, c .before .before .before .before .loop .inv .0 .2)
+take-in-requires c κs =
+    let at-loop = c .before .before .before .before in
+    (omega arith, at-loop .loop .inv .0 .2)
 
 add-i : tie.Need-add-i Inv-loop μ-loop
 add-i c = search needs
@@ -41,14 +46,30 @@ loop-less c = search needs
 
 loop-again : tie.Need-loop-again Inv-loop μ-loop
 loop-again c =
-    let e = rw (toZ-ofZ (sfits-of (c .before .before .before .before .take-in-arg2 .given))) at (c .before .before .take-in .ensures) in
-    (gather-on (c .before .before .before .before .before .before .before .before .before .before .args .l) (c .before .before .before .before .before .before .before .before .before .before .args .labels .now) (c .before .before .before .before .before .before .before .before .before .before .args .vs .now) (c .before .before .before .before .before .before .before .loop .group) (c .before .before .before .before .before .before .before .loop .n) (c .before .before .before .before .before .before .before .loop .i) (c .before .before .before .before .before .before .before .loop .inv .0) _ _ (c .before .before .before .before .before .before .loop-test .taken) (c .before .before .before .before .before .before .before .before .before .before .pre .0) (e .0) (e .1), search needs)
+    let after-take-in = c .before .before in
+    let at-take-in-arg2 = after-take-in .before .before in
+    let at-test = at-take-in-arg2 .before .before in
+    let at-loop = at-test .before in
+    let at-start = at-loop .before .before .before in
+    let args = at-start .args in
+    let e = rw (toZ-ofZ (sfits-of (at-take-in-arg2 .take-in-arg2 .given))) at (after-take-in .take-in .ensures) in (
+      gather-on (args .l) (args .labels .now) (args .vs .now) (at-loop .loop .group) (at-loop .loop .n) (at-loop .loop .i) (at-loop .loop .inv .0)
+          _ _ (at-test .loop-test .taken) (at-start .pre .0) (e .0) (e .1),
+      search needs,
+    )
 
 same-length : tie.Need-same-length Inv-loop μ-loop
 same-length c = search needs
 
 returns : tie.Need-returns Inv-loop μ-loop
-returns c = (omega arith, gather-end (c .before .before .before .before .args .l) (c .before .before .before .before .args .labels .now) (c .before .before .before .before .args .vs .now) (c .before .loop .group) (c .before .loop .n) (c .before .loop .i) (c .before .loop .inv .0) (c .loop-test .left))
+returns c =
+    let at-loop = c .before in
+    let at-start = at-loop .before .before .before in
+    let args = at-start .args in (
+      omega arith,
+      gather-end (args .l) (args .labels .now) (args .vs .now) (at-loop .loop .group) (at-loop .loop .n) (at-loop .loop .i)
+          (at-loop .loop .inv .0) (c .loop-test .left),
+    )
 
 pub gather-spec : {M : Type 1} → statement M
 gather-spec =

@@ -27,13 +27,23 @@ part-median-start : tie.Need-part-median-start
 part-median-start c = search needs
 
 part-median-end : tie.Need-part-median-end
-part-median-end c = array-room zero64 (length (c .before .before .before .before .before .args .labels .now)) (c .before .before .gather .result) (c .before .before .gather .last .1 .1 .1 .0) (c .before .before .before .before .before .pre .1) (c .before .before .gather .kept .1 .1 .1 .0) (c .before .before .gather .ensures .0)
+part-median-end c =
+    let after-gather = c .before .before in
+    let at-start = after-gather .before .before .before in
+    array-room zero64 (length (at-start .args .labels .now)) (after-gather .gather .result) (after-gather .gather .last .1 .1 .1 .0)
+    (at-start .pre .1) (after-gather .gather .kept .1 .1 .1 .0) (after-gather .gather .ensures .0)
 
 median-requires : tie.Need-median-requires
 median-requires c κs = search needs
 
 returns : tie.Need-returns
-returns c = gathered-median (c .before .before .before .before .before .before .before .args .l) (c .before .before .before .before .before .before .before .args .labels .now) (c .before .before .before .before .before .before .before .args .vs .now) (c .before .before .before .before .gather .last .1 .1 .1 .0) (array zero64) (length (c .before .before .before .before .before .before .before .args .labels .now)) (c .before .before .before .before .gather .result) (c .before .before .before .before .gather .kept .1 .1 .1 .0 ∙ array-part zero64 _ (c .before .before .before .before .before .before .before .pre .1)) (c .before .before .before .before .gather .ensures .0) (c .before .before .before .before .gather .ensures .1) (c .median .ensures)
+returns c =
+    let after-gather = c .before .before .before .before in
+    let at-start = after-gather .before .before .before in
+    let args = at-start .args in
+    gathered-median (args .l) (args .labels .now) (args .vs .now) (after-gather .gather .last .1 .1 .1 .0) (array zero64)
+    (length (args .labels .now)) (after-gather .gather .result) (after-gather .gather .kept .1 .1 .1 .0 ∙ array-part zero64 _ (at-start .pre .1))
+    (after-gather .gather .ensures .0) (after-gather .gather .ensures .1) (c .median .ensures)
 
 pub label-median-spec : {M : Type 1} → statement M
 label-median-spec =

@@ -19,7 +19,10 @@ abbrev μ-loop : tie.MeasureT-loop
 
 loop-holds : tie.Need-loop-holds Inv-loop μ-loop
 unfolding labelMedians
-loop-holds c = (refl, each-start (labelMedian (c .before .before .args .labels .now) (c .before .before .args .vs .now)) (labelsIn (c .before .before .args .labels .now)) (c .before .before .args .out .now))
+loop-holds c =
+    let at-start = c .before .before in
+    let args = at-start .args in
+    (refl, each-start (labelMedian (args .labels .now) (args .vs .now)) (labelsIn (args .labels .now)) (args .out .now))
 
 label-median-requires : tie.Need-label-median-requires Inv-loop μ-loop
 label-median-requires c κs = search needs
@@ -39,14 +42,25 @@ loop-less c = search needs
 loop-again : tie.Need-loop-again Inv-loop μ-loop
 unfolding labelMedians
 loop-again c =
-    (simp length-set (omega arith), each-on (labelMedian (c .before .before .before .before .before .args .labels .now) (c .before .before .before .before .before .args .vs .now)) (labelsIn (c .before .before .before .before .before .args .labels .now)) (c .before .before .before .before .before .args .out .now) (c .before .before .loop .l) (c .before .before .loop .out) (c .before .before .loop .inv .1) (omega arith) (omega arith) (c .label-median .ensures))
+    let at-loop = c .before .before in
+    let at-start = at-loop .before .before .before in
+    let args = at-start .args in (
+      simp length-set (omega arith),
+      each-on (labelMedian (args .labels .now) (args .vs .now)) (labelsIn (args .labels .now)) (args .out .now)
+          (at-loop .loop .l) (at-loop .loop .out) (at-loop .loop .inv .1) (omega arith) (omega arith) (c .label-median .ensures),
+    )
 
 same-length : tie.Need-same-length Inv-loop μ-loop
 same-length c = search needs
 
 returns : tie.Need-returns Inv-loop μ-loop
 unfolding labelMedians
-returns c = each-end (labelMedian (c .before .before .before .before .args .labels .now) (c .before .before .before .before .args .vs .now)) (labelsIn (c .before .before .before .before .args .labels .now)) (c .before .before .before .before .args .out .now) (c .before .loop .l) (c .before .loop .out) (c .before .loop .inv .1) (omega arith)
+returns c =
+    let at-loop = c .before in
+    let at-start = at-loop .before .before .before in
+    let args = at-start .args in
+    each-end (labelMedian (args .labels .now) (args .vs .now)) (labelsIn (args .labels .now)) (args .out .now) (at-loop .loop .l)
+    (at-loop .loop .out) (at-loop .loop .inv .1) (omega arith)
 
 pub median-column-spec : {M : Type 1} → statement M
 median-column-spec =

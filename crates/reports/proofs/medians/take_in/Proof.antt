@@ -20,12 +20,18 @@ same-length c = search needs
 
 returns : tie.Need-returns
 returns c =
-    let b = sym (rw (toZ-ofZ (c .before .before .before .before .before .before .before .fits .k)) at (c .before .before .before .before .before .is-label .ensures)) ∙ c .before .before .before .before .if1 .taken in
-    (rw b, rw b (inserted (c .before .before .before .before .before .before .before .args .group .now) _ (c .before .before .before .before .before .before .before .args .n) (c .before .before .before .before .before .before .before .args .v) (c .before .before .before .before .before .before .before .pre .0) (c .before .before .insert-ordered .ensures)))
+    let after-insert-ordered = c .before .before in
+    let at-if1 = after-insert-ordered .before .before in
+    let after-is-label = at-if1 .before in
+    let at-start = after-is-label .before .before in
+    let args = at-start .args in
+    let b = sym (rw (toZ-ofZ (at-start .fits .k)) at (after-is-label .is-label .ensures)) ∙ at-if1 .if1 .taken in
+    (rw b, rw b (inserted (args .group .now) _ (args .n) (args .v) (at-start .pre .0) (after-insert-ordered .insert-ordered .ensures)))
 
 returns-2 : tie.Need-returns-2
 returns-2 c =
-    let b = sym (rw (toZ-ofZ (c .before .before .before .fits .k)) at (c .before .is-label .ensures)) ∙ c .if1 .left in
+    let at-fits = c .before .before .before in
+    let b = sym (rw (toZ-ofZ (at-fits .fits .k)) at (c .before .is-label .ensures)) ∙ c .if1 .left in
     (rw b, rw b)
 
 pub take-in-spec : {M : Type 1} → statement M

@@ -8,16 +8,26 @@ use borrow.Author.Needs.{needs}
 use Rattle.reports.proofs.view.trace_view.Statement.{statement}
 use Rattle.reports.proofs.view.trace_view.Tie as tie
 
-inside : (c : tie.After-enum-told) → c .before .before .before .before .args .trace < length (c .before .before .before .before .args .lens .now)
+inside : (c : tie.After-enum-told) →
+    let at-start = c .before .before .before .before in
+    at-start .args .trace < length (at-start .args .lens .now)
 inside c =
-    let s = c .before .before .before .before in
-    view-inside (s .args .lens .now) (length (s .args .labels .now)) (s .args .trace) (sym (c .before .before .check-view .ensures) ∙ c .enum-told .given .1)
+    let after-check-view = c .before .before in
+    let at-start = after-check-view .before .before in
+    let args = at-start .args in
+    view-inside (args .lens .now) (length (args .labels .now)) (args .trace) (sym (after-check-view .check-view .ensures) ∙ c .enum-told .given .1)
 
-ends : (c : tie.After-shared-slice-known2) → let s = c .before .before .before .before .before .before in c .before .trace-start .result + getD (s .args .lens .now) (s .args .trace) 0 ≤ length (s .args .labels .now)
+ends : (c : tie.After-shared-slice-known2) →
+    let at-start = c .before .before .before .before .before .before in
+    let args = at-start .args in
+    c .before .trace-start .result + getD (args .lens .now) (args .trace) 0 ≤ length (args .labels .now)
 ends c =
-    let s = c .before .before .before .before .before .before in
-    let accepted = sym (c .before .before .before .before .check-view .ensures) ∙ c .before .before .enum-told .given .1 in
-    omega (arith, c .before .trace-start .ensures, view-end (s .args .lens .now) (length (s .args .labels .now)) (s .args .trace) accepted)
+    let at-match = c .before .before in
+    let after-check-view = at-match .before .before in
+    let at-start = after-check-view .before .before in
+    let args = at-start .args in
+    let accepted = sym (after-check-view .check-view .ensures) ∙ at-match .enum-told .given .1 in
+    omega (arith, c .before .trace-start .ensures, view-end (args .lens .now) (length (args .labels .now)) (args .trace) accepted)
 
 check-view-requires : tie.Need-check-view-requires
 check-view-requires c κs = search needs
@@ -39,26 +49,36 @@ part-result-end c = search needs
 
 returns : tie.Need-returns
 returns c =
-    let s = c .before .before .before .before .before .before .before in
-    view-refused (s .args .lens .now) (s .args .trace) (s .args .labels) _ _ _ (c .before .before .before .before .before .check-view .ensures) refl _ (c .before .before .before .c .given .1) (c .before .number .ensures) refl (omega arith)
+    let at-c = c .before .before .before in
+    let after-check-view = at-c .before .before in
+    let at-start = after-check-view .before .before in
+    let args = at-start .args in
+    view-refused (args .lens .now) (args .trace) (args .labels) _ _ _ (after-check-view .check-view .ensures) refl _ (at-c .c .given .1)
+    (c .before .number .ensures) refl (omega arith)
 
 enum-told : tie.Need-enum-told
 enum-told c = search needs
 
 trace-start-requires : tie.Need-trace-start-requires
 trace-start-requires c κs =
-    let s = c .before .before .before .before in
-    let accepted = sym (c .before .before .check-view .ensures) ∙ c .enum-told .given .1 in
-    (omega (arith, inside c), omega (arith, view-total (s .args .lens .now) (length (s .args .labels .now)) (s .args .trace) accepted))
+    let after-check-view = c .before .before in
+    let at-start = after-check-view .before .before in
+    let args = at-start .args in
+    let accepted = sym (after-check-view .check-view .ensures) ∙ c .enum-told .given .1 in
+    (omega (arith, inside c), omega (arith, view-total (args .lens .now) (length (args .labels .now)) (args .trace) accepted))
 
 mul-end : tie.Need-mul-end
 mul-end c = omega (arith, inside (c .before))
 
 shared-slice-read-end : tie.Need-shared-slice-read-end
-shared-slice-read-end c = omega (arith, inside (c .before .before))
+shared-slice-read-end c =
+    let at-match = c .before .before in
+    omega (arith, inside at-match)
 
 cast-end : tie.Need-cast-end
-cast-end c = omega (arith, c .shared-slice-known2 .given (c .before .before .before .before .before .before .args .trace))
+cast-end c =
+    let at-start = c .before .before .before .before .before .before in
+    omega (arith, c .shared-slice-known2 .given (at-start .args .trace))
 
 add-end : tie.Need-add-end
 add-end c = omega (arith, ends c)
@@ -77,8 +97,13 @@ part-result-end-2 c = omega (arith, ends c)
 
 returns-2 : tie.Need-returns-2
 returns-2 c =
-    let s = c .before .before .before .before .before .before .before in
-    view-given (s .args .lens .now) (s .args .trace) (s .args .labels) _ _ _ (c .before .before .before .before .before .check-view .ensures) (search needs) _ (c .before .before .before .enum-told .given .1) (c .before .before .trace-start .ensures) refl (search needs) (search needs)
+    let after-trace-start = c .before .before in
+    let at-match = after-trace-start .before in
+    let after-check-view = at-match .before .before in
+    let at-start = after-check-view .before .before in
+    let args = at-start .args in
+    view-given (args .lens .now) (args .trace) (args .labels) _ _ _ (after-check-view .check-view .ensures) (search needs) _
+    (at-match .enum-told .given .1) (after-trace-start .trace-start .ensures) refl (search needs) (search needs)
 
 pub trace-view-spec : {M : Type 1} → statement M
 trace-view-spec =

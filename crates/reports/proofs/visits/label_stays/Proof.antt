@@ -1,7 +1,6 @@
 -- `reports::visits::label_stays` meets its contract.
 use lib.ListN.{length}
-use Rattle.stay.specs.Trace.{fixes}
-use Rattle.tracks.specs.Tracks.{traces}
+use Rattle.trace.specs.Trace.{fixes, traces}
 use Rattle.reports.proofs.StayLabels.{stays-labelled}
 use borrow.Author.Needs.{needs}
 use Rattle.reports.proofs.visits.label_stays.Statement.{statement}
@@ -93,10 +92,16 @@ same-length-2 c = search needs
 
 returns : tie.Need-returns
 returns c =
-    let a = c .before .before .before .before .before .before .before .before .before .before .before .before .before .before .before .before .before .before .before .before .args in
-    let p = c .before .before .before .before .before .before .before .before .before .before .before .before .before .before .before .before .before .before .before .before .pre .0 in
-    let f = c .before .before .before .before .before .before .before .before .before .all-stays in
-    stays-labelled (a .s) (traces (a .one .now) (fixes (a .xs .now) (a .ys .now) (a .times .now) (a .marks .now))) (length (a .xs .now)) (f .result) (a .px .now) (a .py .now) (a .pl .now) (a .floats .now) (f .last .1 .1 .1 .1 .1 .1 .0) (a .words .now) (f .last .1 .1 .1 .1 .1 .1 .1 .0) (c .before .stay-labels .last .1 .1 .1 .1 .1 .0) (f .kept .1 .1 .1 .1 .1 .1 .0) (f .kept .1 .1 .1 .1 .1 .1 .1 .0) (p .floats-room) (p .words-room) (f .ensures) (c .before .stay-labels .kept .1 .1 .1 .1 .1 .0) (c .before .stay-labels .ensures)
+    let after-stay-labels = c .before in
+    let at-all-stays = after-stay-labels .before .before .before .before .before .before .before .before in
+    let at-start = at-all-stays .before .before .before .before .before .before .before .before .before .before .before in
+    let a = at-start .args in
+    let p = at-start .pre .0 in
+    let f = at-all-stays .all-stays in
+    stays-labelled (a .s) (traces (a .one .now) (fixes (a .xs .now) (a .ys .now) (a .times .now) (a .marks .now))) (length (a .xs .now)) (f .result)
+    (a .px .now) (a .py .now) (a .pl .now) (a .floats .now) (f .last .1 .1 .1 .1 .1 .1 .0) (a .words .now) (f .last .1 .1 .1 .1 .1 .1 .1 .0)
+    (after-stay-labels .stay-labels .last .1 .1 .1 .1 .1 .0) (f .kept .1 .1 .1 .1 .1 .1 .0) (f .kept .1 .1 .1 .1 .1 .1 .1 .0) (p .floats-room)
+    (p .words-room) (f .ensures) (after-stay-labels .stay-labels .kept .1 .1 .1 .1 .1 .0) (after-stay-labels .stay-labels .ensures)
 
 pub label-stays-spec : {M : Type 1} → statement M
 label-stays-spec =

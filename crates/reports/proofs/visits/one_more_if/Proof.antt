@@ -13,10 +13,14 @@ add-result : tie.Need-add-result
 add-result c = search needs
 
 returns : tie.Need-returns
-returns c = rw (sym (rw (toZ-ofZ (c .before .before .fits .k)) at (c .before .is-label .ensures)) ∙ c .if1 .taken) (add-one (c .before .before .args .n))
+returns c =
+    let at-start = c .before .before in
+    rw (sym (rw (toZ-ofZ (at-start .fits .k)) at (c .before .is-label .ensures)) ∙ c .if1 .taken) (add-one (at-start .args .n))
 
 returns-2 : tie.Need-returns-2
-returns-2 c = rw (sym (rw (toZ-ofZ (c .before .before .fits .k)) at (c .before .is-label .ensures)) ∙ c .if1 .left)
+returns-2 c =
+    let at-fits = c .before .before in
+    rw (sym (rw (toZ-ofZ (at-fits .fits .k)) at (c .before .is-label .ensures)) ∙ c .if1 .left)
 
 pub one-more-if-spec : {M : Type 1} → statement M
 one-more-if-spec = tie.close (tie.spec is-label-requires add-result returns returns-2)

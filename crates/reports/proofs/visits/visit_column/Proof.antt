@@ -18,7 +18,10 @@ abbrev μ-loop : tie.MeasureT-loop
 μ-loop labels count out₀ l₀ out l = length out₀ - l
 
 loop-holds : tie.Need-loop-holds Inv-loop μ-loop
-loop-holds c = (refl, each-start (visitsTo (c .before .args .labels .now)) (c .before .args .count) (c .before .args .out .now))
+loop-holds c =
+    let at-start = c .before in
+    let args = at-start .args in
+    (refl, each-start (visitsTo (args .labels .now)) (args .count) (args .out .now))
 
 visits-to-requires : tie.Need-visits-to-requires Inv-loop μ-loop
 visits-to-requires c κs = search needs
@@ -36,13 +39,25 @@ loop-less : tie.Need-loop-less Inv-loop μ-loop
 loop-less c = search needs
 
 loop-again : tie.Need-loop-again Inv-loop μ-loop
-loop-again c = (simp length-set (omega arith), each-on (visitsTo (c .before .before .before .before .args .labels .now)) (c .before .before .before .before .args .count) (c .before .before .before .before .args .out .now) (c .before .before .loop .l) (c .before .before .loop .out) (c .before .before .loop .inv .1) (c .before .loop-test .taken) (c .before .before .before .before .pre .1) (c .visits-to .ensures))
+loop-again c =
+    let at-loop = c .before .before in
+    let at-start = at-loop .before .before in
+    let args = at-start .args in (
+      simp length-set (omega arith),
+      each-on (visitsTo (args .labels .now)) (args .count) (args .out .now) (at-loop .loop .l) (at-loop .loop .out)
+          (at-loop .loop .inv .1) (c .before .loop-test .taken) (at-start .pre .1) (c .visits-to .ensures),
+    )
 
 same-length : tie.Need-same-length Inv-loop μ-loop
 same-length c = search needs
 
 returns : tie.Need-returns Inv-loop μ-loop
-returns c = each-end (visitsTo (c .before .before .before .args .labels .now)) (c .before .before .before .args .count) (c .before .before .before .args .out .now) (c .before .loop .l) (c .before .loop .out) (c .before .loop .inv .1) (c .loop-test .left)
+returns c =
+    let at-loop = c .before in
+    let at-start = at-loop .before .before in
+    let args = at-start .args in
+    each-end (visitsTo (args .labels .now)) (args .count) (args .out .now) (at-loop .loop .l) (at-loop .loop .out) (at-loop .loop .inv .1)
+    (c .loop-test .left)
 
 pub visit-column-spec : {M : Type 1} → statement M
 visit-column-spec =

@@ -32,10 +32,18 @@ loop-less : tie.Need-loop-less Inv-loop μ-loop
 loop-less c = search needs
 
 loop-again : tie.Need-loop-again Inv-loop μ-loop
-loop-again c = counted-on (c .before .before .before .before .args .labels .now) (c .before .before .before .before .args .l) (c .before .before .before .loop .n) (c .before .before .before .loop .i) _ (c .before .before .before .loop .inv) (c .before .before .loop-test .taken) (rw (toZ-ofZ (sfits-of (c .before .one-more-if-arg .given))) at (c .one-more-if .ensures))
+loop-again c =
+    let at-test = c .before .before in
+    let at-loop = at-test .before in
+    let at-start = at-loop .before in
+    counted-on (at-start .args .labels .now) (at-start .args .l) (at-loop .loop .n) (at-loop .loop .i) _ (at-loop .loop .inv)
+    (at-test .loop-test .taken) (rw (toZ-ofZ (sfits-of (c .before .one-more-if-arg .given))) at (c .one-more-if .ensures))
 
 returns : tie.Need-returns Inv-loop μ-loop
-returns c = counted-end (c .before .before .args .labels .now) (c .before .before .args .l) (c .before .loop .n) (c .before .loop .i) (c .before .loop .inv) (c .loop-test .left)
+returns c =
+    let at-loop = c .before in
+    let at-start = at-loop .before in
+    counted-end (at-start .args .labels .now) (at-start .args .l) (at-loop .loop .n) (at-loop .loop .i) (at-loop .loop .inv) (c .loop-test .left)
 
 pub visits-to-spec : {M : Type 1} → statement M
 visits-to-spec =

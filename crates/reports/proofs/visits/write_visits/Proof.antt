@@ -1,15 +1,15 @@
 -- `reports::visits::write_visits` meets its contract.
-use mathlib.Core.Path.{_≡_, ap, _∙_}
+use mathlib.Core.Path.{_≡_, refl, ap₂, _∙_}
 use mathlib.Core.List.{List, map}
-use Prim.Native.Nat.{_+_, _≤_}
+use Prim.Native.Nat.{ℕ, _+_, _≤_}
 use native.Mathlib.Omega.{arith}
 use lib.IntN.{ℤ}
 use lib.ListN.{length, getD}
 use Rattle.lists.specs.Lists.{upto, overlay}
-use Rattle.infostop.proofs.Slices.{lent-length}
-use Rattle.reports.specs.Visits.{visitsTo}
+use Rattle.lists.proofs.Parts.{lent-length}
+use Rattle.reports.specs.Visits.{visitsTo, traceVisits}
 use Rattle.reports.proofs.Held.{held-room}
-use Rattle.reports.proofs.OneTraces.{lens-total, ends-xs, ends-ys, ends-times, ends-marks, small-end, work-room, one-trace, places-agree, few-labels, visited-read}
+use Rattle.reports.proofs.OneTraces.{Asked, lens-total, ends-xs, ends-ys, ends-times, ends-marks, small-end, work-room, one-trace, places-agree, few-labels, visited-read}
 use borrow.Author.Needs.{needs}
 use Rattle.reports.proofs.visits.write_visits.Statement.{statement}
 use Rattle.reports.proofs.visits.write_visits.Tie as tie
@@ -23,30 +23,45 @@ full-ys c = search needs
 full-labels : (c : tie.Start) → length (c .args .m .labels) ≡ 512
 full-labels c = search needs
 
-xs : (c : tie.After-trace-start) → c .trace-start .result + getD (c .before .before .before .before .before .before .before .before .args .lens .now) (c .before .before .before .before .before .before .before .before .args .trace) 0 ≤ length (c .before .before .before .before .before .before .before .before .args .xs .now)
-xs c = ends-xs (c .before .before .before .before .before .before .before .before .args .xs .now) (c .before .before .before .before .before .before .before .before .args .ys .now) (c .before .before .before .before .before .before .before .before .args .times .now) (c .before .before .before .before .before .before .before .before .args .marks .now) (c .before .before .before .before .before .before .before .before .args .lens .now) (c .before .before .before .before .before .before .before .before .args .trace) (length (c .before .before .before .before .before .before .before .before .args .floats .now)) (length (c .before .before .before .before .before .before .before .before .args .words .now)) (c .before .before .before .before .before .before .before .before .pre .0) (c .before .before .before .before .before .before .before .before .pre .1) (c .trace-start .result) (c .trace-start .ensures)
+-- What the call is asked, with the model's arrays whole.
+asked : (c : tie.Start) →
+    let args = c .args in
+    Asked (args .m) (args .n) (args .count) (args .xs .now) (args .ys .now) (args .times .now) (args .marks .now) (args .lens .now) (args .trace)
+    (length (args .floats .now)) (length (args .words .now)) (length (args .out .now))
+asked c = record { asked = c .pre; full-xs = full-xs c; full-ys = full-ys c; full-labels = full-labels c }
 
-ys : (c : tie.After-trace-start) → c .trace-start .result + getD (c .before .before .before .before .before .before .before .before .args .lens .now) (c .before .before .before .before .before .before .before .before .args .trace) 0 ≤ length (c .before .before .before .before .before .before .before .before .args .ys .now)
-ys c = ends-ys (c .before .before .before .before .before .before .before .before .args .xs .now) (c .before .before .before .before .before .before .before .before .args .ys .now) (c .before .before .before .before .before .before .before .before .args .times .now) (c .before .before .before .before .before .before .before .before .args .marks .now) (c .before .before .before .before .before .before .before .before .args .lens .now) (c .before .before .before .before .before .before .before .before .args .trace) (length (c .before .before .before .before .before .before .before .before .args .floats .now)) (length (c .before .before .before .before .before .before .before .before .args .words .now)) (c .before .before .before .before .before .before .before .before .pre .0) (c .before .before .before .before .before .before .before .before .pre .1) (c .trace-start .result) (c .trace-start .ensures)
+-- The places to which the needs below look back.
+abbrev start : tie.After-trace-start → tie.Start
+start c = c .before .before .before .before .before .before .before .before
 
-times : (c : tie.After-trace-start) → c .trace-start .result + getD (c .before .before .before .before .before .before .before .before .args .lens .now) (c .before .before .before .before .before .before .before .before .args .trace) 0 ≤ length (c .before .before .before .before .before .before .before .before .args .times .now)
-times c = ends-times (c .before .before .before .before .before .before .before .before .args .xs .now) (c .before .before .before .before .before .before .before .before .args .ys .now) (c .before .before .before .before .before .before .before .before .args .times .now) (c .before .before .before .before .before .before .before .before .args .marks .now) (c .before .before .before .before .before .before .before .before .args .lens .now) (c .before .before .before .before .before .before .before .before .args .trace) (length (c .before .before .before .before .before .before .before .before .args .floats .now)) (length (c .before .before .before .before .before .before .before .before .args .words .now)) (c .before .before .before .before .before .before .before .before .pre .0) (c .before .before .before .before .before .before .before .before .pre .1) (c .trace-start .result) (c .trace-start .ensures)
+abbrev trace-started : tie.After-label-stays → tie.After-trace-start
+trace-started c =
+    c .before .before .before .before .before .before .before .before .before .before .before .before .before .before .before .before .before .before .before
 
-marks : (c : tie.After-trace-start) → c .trace-start .result + getD (c .before .before .before .before .before .before .before .before .args .lens .now) (c .before .before .before .before .before .before .before .before .args .trace) 0 ≤ length (c .before .before .before .before .before .before .before .before .args .marks .now)
-marks c = ends-marks (c .before .before .before .before .before .before .before .before .args .xs .now) (c .before .before .before .before .before .before .before .before .args .ys .now) (c .before .before .before .before .before .before .before .before .args .times .now) (c .before .before .before .before .before .before .before .before .args .marks .now) (c .before .before .before .before .before .before .before .before .args .lens .now) (c .before .before .before .before .before .before .before .before .args .trace) (length (c .before .before .before .before .before .before .before .before .args .floats .now)) (length (c .before .before .before .before .before .before .before .before .args .words .now)) (c .before .before .before .before .before .before .before .before .pre .0) (c .before .before .before .before .before .before .before .before .pre .1) (c .trace-start .result) (c .trace-start .ensures)
+-- The length of the trace.
+abbrev long : tie.Start → ℕ
+long c = getD (c .args .lens .now) (c .args .trace) 0
 
-small : (c : tie.After-trace-start) → c .trace-start .result + getD (c .before .before .before .before .before .before .before .before .args .lens .now) (c .before .before .before .before .before .before .before .before .args .trace) 0 ≤ 65536
-small c = small-end (c .before .before .before .before .before .before .before .before .args .xs .now) (c .before .before .before .before .before .before .before .before .args .ys .now) (c .before .before .before .before .before .before .before .before .args .times .now) (c .before .before .before .before .before .before .before .before .args .marks .now) (c .before .before .before .before .before .before .before .before .args .lens .now) (c .before .before .before .before .before .before .before .before .args .trace) (length (c .before .before .before .before .before .before .before .before .args .floats .now)) (length (c .before .before .before .before .before .before .before .before .args .words .now)) (c .before .before .before .before .before .before .before .before .pre .0) (c .before .before .before .before .before .before .before .before .pre .1) (c .trace-start .result) (c .trace-start .ensures)
+-- The words that `label_stays` hands back.
+abbrev words : tie.After-label-stays → List ℤ
+words c = c .label-stays .last .1 .1 .1 .1 .1 .1 .1 .1 .1 .1 .0
+
+small : (c : tie.After-trace-start) → c .trace-start .result + long (start c) ≤ 65536
+small c = small-end (asked (start c)) (c .trace-start .ensures)
 
 -- Behind the stay numbers there is room for the labels of the stays.
-stays-few : (c : tie.After-label-stays) → c .label-stays .result ≤ getD (c .before .before .before .before .before .before .before .before .before .before .before .before .before .before .before .before .before .before .before .before .before .before .before .before .before .before .before .args .lens .now) (c .before .before .before .before .before .before .before .before .before .before .before .before .before .before .before .before .before .before .before .before .before .before .before .before .before .before .before .args .trace) 0
-stays-few c = few-labels (c .before .before .before .before .before .before .before .before .before .before .before .before .before .before .before .before .before .before .before .before .before .before .before .before .before .before .before .args .xs .now) (c .before .before .before .before .before .before .before .before .before .before .before .before .before .before .before .before .before .before .before .before .before .before .before .before .before .before .before .args .ys .now) (c .before .before .before .before .before .before .before .before .before .before .before .before .before .before .before .before .before .before .before .before .before .before .before .before .before .before .before .args .times .now) (c .before .before .before .before .before .before .before .before .before .before .before .before .before .before .before .before .before .before .before .before .before .before .before .before .before .before .before .args .marks .now) (c .before .before .before .before .before .before .before .before .before .before .before .before .before .before .before .before .before .before .before .before .before .before .before .before .before .before .before .args .lens .now) (c .before .before .before .before .before .before .before .before .before .before .before .before .before .before .before .before .before .before .before .before .before .before .before .before .before .before .before .args .trace) (length (c .before .before .before .before .before .before .before .before .before .before .before .before .before .before .before .before .before .before .before .before .before .before .before .before .before .before .before .args .floats .now)) (length (c .before .before .before .before .before .before .before .before .before .before .before .before .before .before .before .before .before .before .before .before .before .before .before .before .before .before .before .args .words .now)) (c .before .before .before .before .before .before .before .before .before .before .before .before .before .before .before .before .before .before .before .before .before .before .before .before .before .before .before .pre .0) (c .before .before .before .before .before .before .before .before .before .before .before .before .before .before .before .before .before .before .before .before .before .before .before .before .before .before .before .pre .1) (c .before .before .before .before .before .before .before .before .before .before .before .before .before .before .before .before .before .before .before .trace-start .result) (c .before .before .before .before .before .before .before .before .before .before .before .before .before .before .before .before .before .before .before .trace-start .ensures) (c .before .before .before .before .before .before .before .before .before .before .before .before .before .before .before .before .before .before .before .before .before .before .before .before .before .before .before .args .m) (c .before .before .before .before .before .before .before .before .before .before .before .before .before .before .before .before .before .before .before .before .before .before .before .before .before .before .before .args .n) (c .before .before .before .before .before .before .before .before .before .before .before .before .before .before .before .before .before .before .before .before .before .before .before .before .before .before .before .pre .2) (full-xs (c .before .before .before .before .before .before .before .before .before .before .before .before .before .before .before .before .before .before .before .before .before .before .before .before .before .before .before)) (full-ys (c .before .before .before .before .before .before .before .before .before .before .before .before .before .before .before .before .before .before .before .before .before .before .before .before .before .before .before)) (full-labels (c .before .before .before .before .before .before .before .before .before .before .before .before .before .before .before .before .before .before .before .before .before .before .before .before .before .before .before)) (c .label-stays .last .1 .1 .1 .1 .1 .1 .1 .1 .1 .1 .0) (c .label-stays .result) (c .label-stays .ensures)
+stays-few : (c : tie.After-label-stays) → c .label-stays .result ≤ long (start (trace-started c))
+stays-few c = few-labels (asked (start (trace-started c))) (trace-started c .trace-start .ensures) (c .label-stays .ensures)
 
-labels-end : (c : tie.After-label-stays) → getD (c .before .before .before .before .before .before .before .before .before .before .before .before .before .before .before .before .before .before .before .before .before .before .before .before .before .before .before .args .lens .now) (c .before .before .before .before .before .before .before .before .before .before .before .before .before .before .before .before .before .before .before .before .before .before .before .before .before .before .before .args .trace) 0 + c .label-stays .result ≤ length (c .label-stays .last .1 .1 .1 .1 .1 .1 .1 .1 .1 .1 .0)
-labels-end c = omega (arith, stays-few c, c .label-stays .kept .1 .1 .1 .1 .1 .1 .1 .1 .1 .1 .0, work-room (c .before .before .before .before .before .before .before .before .before .before .before .before .before .before .before .before .before .before .before .before .before .before .before .before .before .before .before .args .xs .now) (c .before .before .before .before .before .before .before .before .before .before .before .before .before .before .before .before .before .before .before .before .before .before .before .before .before .before .before .args .ys .now) (c .before .before .before .before .before .before .before .before .before .before .before .before .before .before .before .before .before .before .before .before .before .before .before .before .before .before .before .args .times .now) (c .before .before .before .before .before .before .before .before .before .before .before .before .before .before .before .before .before .before .before .before .before .before .before .before .before .before .before .args .marks .now) (c .before .before .before .before .before .before .before .before .before .before .before .before .before .before .before .before .before .before .before .before .before .before .before .before .before .before .before .args .lens .now) (c .before .before .before .before .before .before .before .before .before .before .before .before .before .before .before .before .before .before .before .before .before .before .before .before .before .before .before .args .trace) (length (c .before .before .before .before .before .before .before .before .before .before .before .before .before .before .before .before .before .before .before .before .before .before .before .before .before .before .before .args .floats .now)) (length (c .before .before .before .before .before .before .before .before .before .before .before .before .before .before .before .before .before .before .before .before .before .before .before .before .before .before .before .args .words .now)) (c .before .before .before .before .before .before .before .before .before .before .before .before .before .before .before .before .before .before .before .before .before .before .before .before .before .before .before .pre .0) (c .before .before .before .before .before .before .before .before .before .before .before .before .before .before .before .before .before .before .before .before .before .before .before .before .before .before .before .pre .1) (c .before .before .before .before .before .before .before .before .before .before .before .before .before .before .before .before .before .before .before .trace-start .result) (c .before .before .before .before .before .before .before .before .before .before .before .before .before .before .before .before .before .before .before .trace-start .ensures) .1)
+labels-end : (c : tie.After-label-stays) → long (start (trace-started c)) + c .label-stays .result ≤ length (words c)
+labels-end c =
+    let room = work-room (asked (start (trace-started c))) (trace-started c .trace-start .ensures) in
+    omega (arith, stays-few c, c .label-stays .kept .1 .1 .1 .1 .1 .1 .1 .1 .1 .1 .0, room .1)
 
 trace-start-requires : tie.Need-trace-start-requires
-trace-start-requires c κs = let t = lens-total (c .before .before .before .before .before .before .before .args .xs .now) (c .before .before .before .before .before .before .before .args .ys .now) (c .before .before .before .before .before .before .before .args .times .now) (c .before .before .before .before .before .before .before .args .marks .now) (c .before .before .before .before .before .before .before .args .lens .now) (c .before .before .before .before .before .before .before .args .trace) (length (c .before .before .before .before .before .before .before .args .floats .now)) (length (c .before .before .before .before .before .before .before .args .words .now)) (c .before .before .before .before .before .before .before .pre .0) (c .before .before .before .before .before .before .before .pre .1) in (omega (arith, c .before .before .before .before .before .before .before .pre .1), omega arith)
+trace-start-requires c κs =
+    let at-start = c .before .before .before .before .before .before .before in
+    (omega (arith, at-start .pre .there), omega (arith, lens-total (asked at-start)))
 
 mul-len : tie.Need-mul-len
 mul-len c = search needs
@@ -55,7 +70,9 @@ shared-slice-read-len : tie.Need-shared-slice-read-len
 shared-slice-read-len c = search needs
 
 cast-len : tie.Need-cast-len
-cast-len c = omega (arith, c .shared-slice-known6 .given (c .before .before .before .before .before .before .before .before .before .args .trace))
+cast-len c =
+    let at-start = c .before .before .before .before .before .before .before .before .before in
+    omega (arith, c .shared-slice-known6 .given (at-start .args .trace))
 
 add-end : tie.Need-add-end
 add-end c = omega (arith, small (c .before))
@@ -70,7 +87,9 @@ part-label-stays-start : tie.Need-part-label-stays-start
 part-label-stays-start c = search needs
 
 part-label-stays-end : tie.Need-part-label-stays-end
-part-label-stays-end c = held-room (c .before .before .before .before .before .before .before .before .before .before .before .before .before .before .args .m .xs) (c .before .before .before .before .before .before .before .before .before .before .before .before .before .before .args .m .count) _ (full-xs (c .before .before .before .before .before .before .before .before .before .before .before .before .before .before)) (c .before .before .before .before .before .before .before .before .before .before .before .before .before .before .pre .2)
+part-label-stays-end c =
+    let at-start = c .before .before .before .before .before .before .before .before .before .before .before .before .before .before in
+    held-room (at-start .args .m .xs) (at-start .args .m .count) _ (full-xs at-start) (at-start .pre .places)
 
 sub-label-stays-2 : tie.Need-sub-label-stays-2
 sub-label-stays-2 c = search needs
@@ -79,7 +98,9 @@ part-label-stays-start-2 : tie.Need-part-label-stays-start-2
 part-label-stays-start-2 c = search needs
 
 part-label-stays-end-2 : tie.Need-part-label-stays-end-2
-part-label-stays-end-2 c = held-room (c .before .before .before .before .before .before .before .before .before .before .before .before .before .before .before .before .args .m .ys) (c .before .before .before .before .before .before .before .before .before .before .before .before .before .before .before .before .args .m .count) _ (full-ys (c .before .before .before .before .before .before .before .before .before .before .before .before .before .before .before .before)) (c .before .before .before .before .before .before .before .before .before .before .before .before .before .before .before .before .pre .2)
+part-label-stays-end-2 c =
+    let at-start = c .before .before .before .before .before .before .before .before .before .before .before .before .before .before .before .before in
+    held-room (at-start .args .m .ys) (at-start .args .m .count) _ (full-ys at-start) (at-start .pre .places)
 
 sub-label-stays-3 : tie.Need-sub-label-stays-3
 sub-label-stays-3 c = search needs
@@ -88,10 +109,14 @@ part-label-stays-start-3 : tie.Need-part-label-stays-start-3
 part-label-stays-start-3 c = search needs
 
 part-label-stays-end-3 : tie.Need-part-label-stays-end-3
-part-label-stays-end-3 c = held-room (c .before .before .before .before .before .before .before .before .before .before .before .before .before .before .before .before .before .before .args .m .labels) (c .before .before .before .before .before .before .before .before .before .before .before .before .before .before .before .before .before .before .args .m .count) _ (full-labels (c .before .before .before .before .before .before .before .before .before .before .before .before .before .before .before .before .before .before)) (c .before .before .before .before .before .before .before .before .before .before .before .before .before .before .before .before .before .before .pre .2)
+part-label-stays-end-3 c =
+    let at-start = c .before .before .before .before .before .before .before .before .before .before .before .before .before .before .before .before .before .before in
+    held-room (at-start .args .m .labels) (at-start .args .m .count) _ (full-labels at-start) (at-start .pre .places)
 
 mul-label-stays : tie.Need-mul-label-stays
-mul-label-stays c = omega (arith, small (c .before .before .before .before .before .before .before .before .before .before .before))
+mul-label-stays c =
+    let after-trace-start = c .before .before .before .before .before .before .before .before .before .before .before in
+    omega (arith, small after-trace-start)
 
 sub-label-stays-4 : tie.Need-sub-label-stays-4
 sub-label-stays-4 c = search needs
@@ -100,10 +125,14 @@ part-label-stays-start-4 : tie.Need-part-label-stays-start-4
 part-label-stays-start-4 c = search needs
 
 part-label-stays-end-4 : tie.Need-part-label-stays-end-4
-part-label-stays-end-4 c = xs (c .before .before .before .before .before .before .before .before .before .before .before)
+part-label-stays-end-4 c =
+    let after-trace-start = c .before .before .before .before .before .before .before .before .before .before .before in
+    ends-xs (asked (start after-trace-start)) (after-trace-start .trace-start .ensures)
 
 mul-label-stays-2 : tie.Need-mul-label-stays-2
-mul-label-stays-2 c = omega (arith, small (c .before .before .before .before .before .before .before .before .before .before .before .before))
+mul-label-stays-2 c =
+    let after-trace-start = c .before .before .before .before .before .before .before .before .before .before .before .before in
+    omega (arith, small after-trace-start)
 
 sub-label-stays-5 : tie.Need-sub-label-stays-5
 sub-label-stays-5 c = search needs
@@ -112,10 +141,14 @@ part-label-stays-start-5 : tie.Need-part-label-stays-start-5
 part-label-stays-start-5 c = search needs
 
 part-label-stays-end-5 : tie.Need-part-label-stays-end-5
-part-label-stays-end-5 c = ys (c .before .before .before .before .before .before .before .before .before .before .before .before)
+part-label-stays-end-5 c =
+    let after-trace-start = c .before .before .before .before .before .before .before .before .before .before .before .before in
+    ends-ys (asked (start after-trace-start)) (after-trace-start .trace-start .ensures)
 
 mul-label-stays-3 : tie.Need-mul-label-stays-3
-mul-label-stays-3 c = omega (arith, small (c .before .before .before .before .before .before .before .before .before .before .before .before .before))
+mul-label-stays-3 c =
+    let after-trace-start = c .before .before .before .before .before .before .before .before .before .before .before .before .before in
+    omega (arith, small after-trace-start)
 
 sub-label-stays-6 : tie.Need-sub-label-stays-6
 sub-label-stays-6 c = search needs
@@ -124,7 +157,9 @@ part-label-stays-start-6 : tie.Need-part-label-stays-start-6
 part-label-stays-start-6 c = search needs
 
 part-label-stays-end-6 : tie.Need-part-label-stays-end-6
-part-label-stays-end-6 c = times (c .before .before .before .before .before .before .before .before .before .before .before .before .before)
+part-label-stays-end-6 c =
+    let after-trace-start = c .before .before .before .before .before .before .before .before .before .before .before .before .before in
+    ends-times (asked (start after-trace-start)) (after-trace-start .trace-start .ensures)
 
 sub-label-stays-7 : tie.Need-sub-label-stays-7
 sub-label-stays-7 c = search needs
@@ -133,10 +168,14 @@ part-label-stays-start-7 : tie.Need-part-label-stays-start-7
 part-label-stays-start-7 c = search needs
 
 part-label-stays-end-7 : tie.Need-part-label-stays-end-7
-part-label-stays-end-7 c = marks (c .before .before .before .before .before .before .before .before .before .before .before .before .before .before)
+part-label-stays-end-7 c =
+    let after-trace-start = c .before .before .before .before .before .before .before .before .before .before .before .before .before .before in
+    ends-marks (asked (start after-trace-start)) (after-trace-start .trace-start .ensures)
 
 mul-label-stays-4 : tie.Need-mul-label-stays-4
-mul-label-stays-4 c = omega (arith, c .before .before .before .before .before .before .before .before .before .before .before .before .before .before .before .before .before .before .before .before .before .before .before .pre .1, c .before .before .before .before .before .before .before .before .before .before .before .before .before .before .before .before .before .before .before .before .before .before .before .good)
+mul-label-stays-4 c =
+    let at-start = c .before .before .before .before .before .before .before .before .before .before .before .before .before .before .before .before .before .before .before .before .before .before .before in
+    omega (arith, at-start .pre .there, at-start .good)
 
 sub-label-stays-8 : tie.Need-sub-label-stays-8
 sub-label-stays-8 c = search needs
@@ -145,16 +184,25 @@ part-label-stays-start-8 : tie.Need-part-label-stays-start-8
 part-label-stays-start-8 c = search needs
 
 part-label-stays-end-8 : tie.Need-part-label-stays-end-8
-part-label-stays-end-8 c = omega (arith, c .before .before .before .before .before .before .before .before .before .before .before .before .before .before .before .before .before .before .before .before .before .before .before .pre .1)
+part-label-stays-end-8 c =
+    let at-start = c .before .before .before .before .before .before .before .before .before .before .before .before .before .before .before .before .before .before .before .before .before .before .before in
+    omega (arith, at-start .pre .there)
 
 label-stays-requires : tie.Need-label-stays-requires
-label-stays-requires c κs = (one-trace (c .before .before .before .before .before .before .before .before .before .before .before .before .before .before .before .before .before .before .before .before .before .before .before .before .before .before .args .xs .now) (c .before .before .before .before .before .before .before .before .before .before .before .before .before .before .before .before .before .before .before .before .before .before .before .before .before .before .args .ys .now) (c .before .before .before .before .before .before .before .before .before .before .before .before .before .before .before .before .before .before .before .before .before .before .before .before .before .before .args .times .now) (c .before .before .before .before .before .before .before .before .before .before .before .before .before .before .before .before .before .before .before .before .before .before .before .before .before .before .args .marks .now) (c .before .before .before .before .before .before .before .before .before .before .before .before .before .before .before .before .before .before .before .before .before .before .before .before .before .before .args .lens .now) (c .before .before .before .before .before .before .before .before .before .before .before .before .before .before .before .before .before .before .before .before .before .before .before .before .before .before .args .trace) (length (c .before .before .before .before .before .before .before .before .before .before .before .before .before .before .before .before .before .before .before .before .before .before .before .before .before .before .args .floats .now)) (length (c .before .before .before .before .before .before .before .before .before .before .before .before .before .before .before .before .before .before .before .before .before .before .before .before .before .before .args .words .now)) (c .before .before .before .before .before .before .before .before .before .before .before .before .before .before .before .before .before .before .before .before .before .before .before .before .before .before .pre .0) (c .before .before .before .before .before .before .before .before .before .before .before .before .before .before .before .before .before .before .before .before .before .before .before .before .before .before .pre .1) (c .before .before .before .before .before .before .before .before .before .before .before .before .before .before .before .before .before .before .trace-start .result) (c .before .before .before .before .before .before .before .before .before .before .before .before .before .before .before .before .before .before .trace-start .ensures), places-agree (c .before .before .before .before .before .before .before .before .before .before .before .before .before .before .before .before .before .before .before .before .before .before .before .before .before .before .args .xs .now) (c .before .before .before .before .before .before .before .before .before .before .before .before .before .before .before .before .before .before .before .before .before .before .before .before .before .before .args .ys .now) (c .before .before .before .before .before .before .before .before .before .before .before .before .before .before .before .before .before .before .before .before .before .before .before .before .before .before .args .times .now) (c .before .before .before .before .before .before .before .before .before .before .before .before .before .before .before .before .before .before .before .before .before .before .before .before .before .before .args .marks .now) (c .before .before .before .before .before .before .before .before .before .before .before .before .before .before .before .before .before .before .before .before .before .before .before .before .before .before .args .lens .now) (c .before .before .before .before .before .before .before .before .before .before .before .before .before .before .before .before .before .before .before .before .before .before .before .before .before .before .args .trace) (length (c .before .before .before .before .before .before .before .before .before .before .before .before .before .before .before .before .before .before .before .before .before .before .before .before .before .before .args .floats .now)) (length (c .before .before .before .before .before .before .before .before .before .before .before .before .before .before .before .before .before .before .before .before .before .before .before .before .before .before .args .words .now)) (c .before .before .before .before .before .before .before .before .before .before .before .before .before .before .before .before .before .before .before .before .before .before .before .before .before .before .pre .0) (c .before .before .before .before .before .before .before .before .before .before .before .before .before .before .before .before .before .before .before .before .before .before .before .before .before .before .pre .1) (c .before .before .before .before .before .before .before .before .before .before .before .before .before .before .before .before .before .before .trace-start .result) (c .before .before .before .before .before .before .before .before .before .before .before .before .before .before .before .before .before .before .trace-start .ensures) (c .before .before .before .before .before .before .before .before .before .before .before .before .before .before .before .before .before .before .before .before .before .before .before .before .before .before .args .m) (c .before .before .before .before .before .before .before .before .before .before .before .before .before .before .before .before .before .before .before .before .before .before .before .before .before .before .args .n) (c .before .before .before .before .before .before .before .before .before .before .before .before .before .before .before .before .before .before .before .before .before .before .before .before .before .before .pre .2) (full-xs (c .before .before .before .before .before .before .before .before .before .before .before .before .before .before .before .before .before .before .before .before .before .before .before .before .before .before)) (full-ys (c .before .before .before .before .before .before .before .before .before .before .before .before .before .before .before .before .before .before .before .before .before .before .before .before .before .before)) (full-labels (c .before .before .before .before .before .before .before .before .before .before .before .before .before .before .before .before .before .before .before .before .before .before .before .before .before .before)))
+label-stays-requires c κs =
+    let after-trace-start = c .before .before .before .before .before .before .before .before .before .before .before .before .before .before .before .before .before .before in
+    let at-start = start after-trace-start in
+    (one-trace (asked at-start) (after-trace-start .trace-start .ensures) _ _ refl refl, places-agree (asked at-start))
 
 add-l-end : tie.Need-add-l-end
-add-l-end c = omega (arith, stays-few (c .before .before .before), small (c .before .before .before .before .before .before .before .before .before .before .before .before .before .before .before .before .before .before .before .before .before .before))
+add-l-end c =
+    let after-label-stays = c .before .before .before in
+    omega (arith, stays-few after-label-stays, small (trace-started after-label-stays))
 
 mul-visit-column : tie.Need-mul-visit-column
-mul-visit-column c = omega (arith, small (c .before .before .before .before .before .before .before .before .before .before .before .before .before .before .before .before .before .before .before .before .before .before))
+mul-visit-column c =
+    let after-trace-start = c .before .before .before .before .before .before .before .before .before .before .before .before .before .before .before .before .before .before .before .before .before .before in
+    omega (arith, small after-trace-start)
 
 sub-visit-column : tie.Need-sub-visit-column
 sub-visit-column c = search needs
@@ -163,12 +211,18 @@ part-visit-column-start : tie.Need-part-visit-column-start
 part-visit-column-start c = search needs
 
 part-visit-column-end : tie.Need-part-visit-column-end
-part-visit-column-end c = labels-end (c .before .before .before .before)
+part-visit-column-end c =
+    let after-label-stays = c .before .before .before .before in
+    labels-end after-label-stays
 
 visit-column-requires : tie.Need-visit-column-requires
 visit-column-requires c κs =
-    let l = lent-length (getD (c .before .before .before .before .before .before .before .before .before .before .before .before .before .before .before .before .before .before .before .before .before .before .before .before .before .before .before .before .before .before .before .before .before .args .lens .now) (c .before .before .before .before .before .before .before .before .before .before .before .before .before .before .before .before .before .before .before .before .before .before .before .before .before .before .before .before .before .before .before .before .before .args .trace) 0) (getD (c .before .before .before .before .before .before .before .before .before .before .before .before .before .before .before .before .before .before .before .before .before .before .before .before .before .before .before .before .before .before .before .before .before .args .lens .now) (c .before .before .before .before .before .before .before .before .before .before .before .before .before .before .before .before .before .before .before .before .before .before .before .before .before .before .before .before .before .before .before .before .before .args .trace) 0 + c .before .before .before .before .before .before .label-stays .result) (c .before .before .before .before .before .before .label-stays .last .1 .1 .1 .1 .1 .1 .1 .1 .1 .1 .0) (omega arith) (labels-end (c .before .before .before .before .before .before)) in
-    (omega (arith, l, stays-few (c .before .before .before .before .before .before), small (c .before .before .before .before .before .before .before .before .before .before .before .before .before .before .before .before .before .before .before .before .before .before .before .before .before)), c .before .before .before .before .before .before .before .before .before .before .before .before .before .before .before .before .before .before .before .before .before .before .before .before .before .before .before .before .before .before .before .before .before .pre .3)
+    let after-label-stays = c .before .before .before .before .before .before in
+    let after-trace-start = trace-started after-label-stays in
+    let at-start = start after-trace-start in
+    let l = lent-length (long at-start) (long at-start + after-label-stays .label-stays .result) (words after-label-stays) (omega arith)
+    (labels-end after-label-stays) in
+    (omega (arith, l, stays-few after-label-stays, small after-trace-start), at-start .pre .room)
 
 same-length : tie.Need-same-length
 same-length c = search needs
@@ -180,7 +234,15 @@ same-length-3 : tie.Need-same-length-3
 same-length-3 c = search needs
 
 returns : tie.Need-returns
-returns c = c .before .before .visit-column .ensures ∙ ap (λ (ks : List ℤ). overlay (map (visitsTo ks) (upto (c .before .before .before .before .before .before .before .before .before .before .before .before .before .before .before .before .before .before .before .before .before .before .before .before .before .before .before .before .before .before .before .before .before .before .before .before .args .count))) (c .before .before .before .before .before .before .before .before .before .before .before .before .before .before .before .before .before .before .before .before .before .before .before .before .before .before .before .before .before .before .before .before .before .before .before .before .args .out .now)) (visited-read (c .before .before .before .before .before .before .before .before .before .before .before .before .before .before .before .before .before .before .before .before .before .before .before .before .before .before .before .before .before .before .before .before .before .before .before .before .args .xs .now) (c .before .before .before .before .before .before .before .before .before .before .before .before .before .before .before .before .before .before .before .before .before .before .before .before .before .before .before .before .before .before .before .before .before .before .before .before .args .ys .now) (c .before .before .before .before .before .before .before .before .before .before .before .before .before .before .before .before .before .before .before .before .before .before .before .before .before .before .before .before .before .before .before .before .before .before .before .before .args .times .now) (c .before .before .before .before .before .before .before .before .before .before .before .before .before .before .before .before .before .before .before .before .before .before .before .before .before .before .before .before .before .before .before .before .before .before .before .before .args .marks .now) (c .before .before .before .before .before .before .before .before .before .before .before .before .before .before .before .before .before .before .before .before .before .before .before .before .before .before .before .before .before .before .before .before .before .before .before .before .args .lens .now) (c .before .before .before .before .before .before .before .before .before .before .before .before .before .before .before .before .before .before .before .before .before .before .before .before .before .before .before .before .before .before .before .before .before .before .before .before .args .trace) (length (c .before .before .before .before .before .before .before .before .before .before .before .before .before .before .before .before .before .before .before .before .before .before .before .before .before .before .before .before .before .before .before .before .before .before .before .before .args .floats .now)) (length (c .before .before .before .before .before .before .before .before .before .before .before .before .before .before .before .before .before .before .before .before .before .before .before .before .before .before .before .before .before .before .before .before .before .before .before .before .args .words .now)) (c .before .before .before .before .before .before .before .before .before .before .before .before .before .before .before .before .before .before .before .before .before .before .before .before .before .before .before .before .before .before .before .before .before .before .before .before .pre .0) (c .before .before .before .before .before .before .before .before .before .before .before .before .before .before .before .before .before .before .before .before .before .before .before .before .before .before .before .before .before .before .before .before .before .before .before .before .pre .1) (c .before .before .before .before .before .before .before .before .before .before .before .before .before .before .before .before .before .before .before .before .before .before .before .before .before .before .before .before .trace-start .result) (c .before .before .before .before .before .before .before .before .before .before .before .before .before .before .before .before .before .before .before .before .before .before .before .before .before .before .before .before .trace-start .ensures) (c .before .before .before .before .before .before .before .before .before .before .before .before .before .before .before .before .before .before .before .before .before .before .before .before .before .before .before .before .before .before .before .before .before .before .before .before .args .m) (c .before .before .before .before .before .before .before .before .before .before .before .before .before .before .before .before .before .before .before .before .before .before .before .before .before .before .before .before .before .before .before .before .before .before .before .before .args .n) (c .before .before .before .before .before .before .before .before .before .before .before .before .before .before .before .before .before .before .before .before .before .before .before .before .before .before .before .before .before .before .before .before .before .before .before .before .pre .2) (full-xs (c .before .before .before .before .before .before .before .before .before .before .before .before .before .before .before .before .before .before .before .before .before .before .before .before .before .before .before .before .before .before .before .before .before .before .before .before)) (full-ys (c .before .before .before .before .before .before .before .before .before .before .before .before .before .before .before .before .before .before .before .before .before .before .before .before .before .before .before .before .before .before .before .before .before .before .before .before)) (full-labels (c .before .before .before .before .before .before .before .before .before .before .before .before .before .before .before .before .before .before .before .before .before .before .before .before .before .before .before .before .before .before .before .before .before .before .before .before)) (c .before .before .before .before .before .before .before .before .before .label-stays .last .1 .1 .1 .1 .1 .1 .1 .1 .1 .1 .0) (c .before .before .before .before .before .before .before .before .before .label-stays .result) (c .before .before .before .before .before .before .before .before .before .label-stays .ensures))
+unfolding traceVisits
+returns c =
+    let after-visit-column = c .before .before in
+    let after-label-stays = after-visit-column .before .before .before .before .before .before .before in
+    let after-trace-start = trace-started after-label-stays in
+    let at-start = start after-trace-start in
+    let visited = visited-read (asked at-start) (after-trace-start .trace-start .ensures) (after-label-stays .label-stays .ensures) in
+    after-visit-column .visit-column .ensures
+    ∙ ap₂ (λ (ks : List ℤ) (k : ℕ). overlay (map (visitsTo ks) (upto k)) (at-start .args .out .now)) visited (at-start .pre .labels)
 
 pub write-visits-spec : {M : Type 1} → statement M
 write-visits-spec =

@@ -1,8 +1,7 @@
 -- `text::judge::fix_line` meets its contract.
 use mathlib.Core.Path.{sym}
 use borrow.Author.Tests.{eq-eqb, ne-eqb}
-use Rattle.text.specs.Steps.{fixLine}
-use borrow.Author.Needs.{needs}
+use Rattle.text.specs.Machine.{fixLine}
 use Rattle.text.proofs.judge.fix_line.Statement.{statement}
 use Rattle.text.proofs.judge.fix_line.Tie as tie
 

@@ -1,7 +1,7 @@
 -- `text::judge::more` meets its contract.
 use mathlib.Core.Path.{sym}
 use borrow.Author.Tests.{lt-ltb, le-ltb}
-use Rattle.text.specs.Steps.{more}
+use Rattle.text.specs.Machine.{more}
 use borrow.Author.Needs.{needs}
 use Rattle.text.proofs.judge.more.Statement.{statement}
 use Rattle.text.proofs.judge.more.Tie as tie

@@ -1,8 +1,7 @@
 -- `text::judge::set_line` meets its contract.
 use mathlib.Core.Path.{sym}
 use borrow.Author.Tests.{eq-eqb, ne-eqb}
-use Rattle.text.specs.Steps.{setLine}
-use borrow.Author.Needs.{needs}
+use Rattle.text.specs.Machine.{setLine}
 use Rattle.text.proofs.judge.set_line.Statement.{statement}
 use Rattle.text.proofs.judge.set_line.Tie as tie
 

@@ -1,6 +1,6 @@
 -- `text::judge::settled` meets its contract.
 use mathlib.Core.Path.{sym, _∙_}
-use Rattle.text.specs.Steps.{settled}
+use Rattle.text.specs.Machine.{settled}
 use borrow.Author.Needs.{needs}
 use Rattle.text.proofs.judge.settled.Statement.{statement}
 use Rattle.text.proofs.judge.settled.Tie as tie
@@ -13,14 +13,18 @@ begun-requires c κs = search needs
 
 returns : tie.Need-returns
 unfolding settled
-returns c = c .begun .ensures ∙ sym (simp (← c .before .before .settings-ok .ensures, c .before .if1 .taken))
+returns c =
+    let after-settings-ok = c .before .before in
+    c .begun .ensures ∙ sym (simp (← after-settings-ok .settings-ok .ensures, c .before .if1 .taken))
 
 refused-requires : tie.Need-refused-requires
 refused-requires c κs = search needs
 
 returns-2 : tie.Need-returns-2
 unfolding settled
-returns-2 c = c .refused .ensures ∙ sym (simp (← c .before .before .settings-ok .ensures, c .before .if1 .left))
+returns-2 c =
+    let after-settings-ok = c .before .before in
+    c .refused .ensures ∙ sym (simp (← after-settings-ok .settings-ok .ensures, c .before .if1 .left))
 
 pub settled-spec : {M : Type 1} → statement M
 settled-spec =

@@ -1,7 +1,7 @@
 -- `text::judge::stored` meets its contract.
 use mathlib.Core.Path.{sym}
 use borrow.Author.Tests.{eq-eqb, ne-eqb}
-use Rattle.text.specs.Steps.{stored}
+use Rattle.text.specs.Machine.{stored}
 use borrow.Author.Needs.{needs}
 use Rattle.text.proofs.judge.stored.Statement.{statement}
 use Rattle.text.proofs.judge.stored.Tie as tie
@@ -11,11 +11,17 @@ fix-line-requires c κs = search needs
 
 returns : tie.Need-returns
 unfolding stored
-returns c = sym (simp (← c .before .before .before .before .fix-line .ensures, c .before .before .before .if1 .taken, eq-eqb _ _ (c .before .if2 .taken)))
+returns c =
+    let at-if1 = c .before .before .before in
+    let after-fix-line = at-if1 .before in
+    sym (simp (← after-fix-line .fix-line .ensures, at-if1 .if1 .taken, eq-eqb _ _ (c .before .if2 .taken)))
 
 returns-2 : tie.Need-returns-2
 unfolding stored
-returns-2 c = sym (simp (← c .before .before .before .fix-line .ensures, c .before .before .if1 .taken, ne-eqb _ _ (c .if2 .left)))
+returns-2 c =
+    let at-if1 = c .before .before in
+    let after-fix-line = at-if1 .before in
+    sym (simp (← after-fix-line .fix-line .ensures, at-if1 .if1 .taken, ne-eqb _ _ (c .if2 .left)))
 
 returns-3 : tie.Need-returns-3
 unfolding stored

@@ -3,7 +3,7 @@ use mathlib.Core.Path.{_≡_, _∙_}
 use Prim.Native.Nat.{_-_}
 use native.Mathlib.Omega.{arith}
 use lib.ListN.{length, drop}
-use Rattle.text.specs.Steps.{run, machine}
+use Rattle.text.specs.Machine.{run, machine}
 use Rattle.text.proofs.Run.{run-on, run-end}
 use borrow.Author.Needs.{needs}
 use Rattle.text.proofs.machine.feed_bytes.Statement.{statement}
@@ -11,8 +11,9 @@ use Rattle.text.proofs.machine.feed_bytes.Tie as tie
 
 abbrev Inv-loop : tie.InvT-loop
 Inv-loop text sizes₀ signs₀ xs₀ ys₀ times₀ marks₀ lens₀ m₀ i₀ sizes signs xs ys times marks lens m i =
-    (run (machine m sizes signs xs ys times marks lens) (drop i text) ≡ run (machine m₀ sizes₀ signs₀ xs₀ ys₀ times₀ marks₀ lens₀) text)
-    × (length sizes ≡ length sizes₀) × (length signs ≡ length signs₀) × (length xs ≡ length xs₀) × (length ys ≡ length ys₀) × (length times ≡ length times₀) × (length marks ≡ length marks₀) × (length lens ≡ length lens₀)
+    (run (machine m sizes signs xs ys times marks lens) (drop i text) ≡ run (machine m₀ sizes₀ signs₀ xs₀ ys₀ times₀ marks₀ lens₀) text) ×
+    (length sizes ≡ length sizes₀) × (length signs ≡ length signs₀) × (length xs ≡ length xs₀) × (length ys ≡ length ys₀) ×
+    (length times ≡ length times₀) × (length marks ≡ length marks₀) × (length lens ≡ length lens₀)
 
 abbrev μ-loop : tie.MeasureT-loop
 μ-loop text sizes₀ signs₀ xs₀ ys₀ times₀ marks₀ lens₀ m₀ i₀ sizes signs xs ys times marks lens m i = length text - i
@@ -27,13 +28,28 @@ advance-requires : tie.Need-advance-requires Inv-loop μ-loop
 advance-requires c κs = search needs
 
 add-i : tie.Need-add-i Inv-loop μ-loop
-add-i c = omega (arith, c .before .before .before .before .before .before .before .before .before .before .before .before .before .before .before .before .before .before .before .before .before .before .before .loop-test .taken, c .before .before .before .before .before .before .before .before .before .before .before .before .before .before .before .before .before .before .before .before .before .before .before .before .before .before .before .before .before .before .before .before .before .good .1 .0 .0)
+add-i c =
+    let at-test = c .before .before .before .before .before .before .before .before .before .before .before .before .before .before .before .before .before .before .before .before .before .before .before in
+    let at-good = at-test .before .before .before .before .before .before .before .before .before .before in
+    omega (arith, at-test .loop-test .taken, at-good .good .1 .0 .0)
 
 loop-less : tie.Need-loop-less Inv-loop μ-loop
 loop-less c = search needs
 
 loop-again : tie.Need-loop-again Inv-loop μ-loop
-loop-again c = (run-on _ _ _ _ (c .before .before .before .before .before .before .before .before .before .before .before .before .before .before .before .before .before .before .before .before .before .before .before .loop-test .taken) (c .before .before .before .before .before .before .before .before .before .before .before .before .before .before .advance .ensures) (c .before .before .before .before .before .before .before .before .before .before .before .before .before .before .before .before .before .before .before .before .before .before .before .before .loop .inv .0), c .before .before .before .before .before .before .before .before .before .before .before .before .before .before .advance .kept .1 .1 .0 ∙ c .before .before .before .before .before .before .before .before .before .before .before .before .before .before .before .before .before .before .before .before .before .before .before .before .loop .inv .1, c .before .before .before .before .before .before .before .before .before .before .before .before .before .before .advance .kept .1 .1 .1 .0 ∙ c .before .before .before .before .before .before .before .before .before .before .before .before .before .before .before .before .before .before .before .before .before .before .before .before .loop .inv .2, c .before .before .before .before .before .before .before .before .before .before .before .before .before .before .advance .kept .1 .1 .1 .1 .0 ∙ c .before .before .before .before .before .before .before .before .before .before .before .before .before .before .before .before .before .before .before .before .before .before .before .before .loop .inv .3, c .before .before .before .before .before .before .before .before .before .before .before .before .before .before .advance .kept .1 .1 .1 .1 .1 .0 ∙ c .before .before .before .before .before .before .before .before .before .before .before .before .before .before .before .before .before .before .before .before .before .before .before .before .loop .inv .4, c .before .before .before .before .before .before .before .before .before .before .before .before .before .before .advance .kept .1 .1 .1 .1 .1 .1 .0 ∙ c .before .before .before .before .before .before .before .before .before .before .before .before .before .before .before .before .before .before .before .before .before .before .before .before .loop .inv .5, c .before .before .before .before .before .before .before .before .before .before .before .before .before .before .advance .kept .1 .1 .1 .1 .1 .1 .1 .0 ∙ c .before .before .before .before .before .before .before .before .before .before .before .before .before .before .before .before .before .before .before .before .before .before .before .before .loop .inv .6, c .before .before .before .before .before .before .before .before .before .before .before .before .before .before .advance .kept .1 .1 .1 .1 .1 .1 .1 .1 .0 ∙ c .before .before .before .before .before .before .before .before .before .before .before .before .before .before .before .before .before .before .before .before .before .before .before .before .loop .inv .7)
+loop-again c =
+    let after-advance = c .before .before .before .before .before .before .before .before .before .before .before .before .before .before in
+    let at-test = after-advance .before .before .before .before .before .before .before .before .before in
+    let at-loop = at-test .before in (
+      run-on _ _ _ _ (at-test .loop-test .taken) (after-advance .advance .ensures) (at-loop .loop .inv .0),
+      after-advance .advance .kept .1 .1 .0 ∙ at-loop .loop .inv .1,
+      after-advance .advance .kept .1 .1 .1 .0 ∙ at-loop .loop .inv .2,
+      after-advance .advance .kept .1 .1 .1 .1 .0 ∙ at-loop .loop .inv .3,
+      after-advance .advance .kept .1 .1 .1 .1 .1 .0 ∙ at-loop .loop .inv .4,
+      after-advance .advance .kept .1 .1 .1 .1 .1 .1 .0 ∙ at-loop .loop .inv .5,
+      after-advance .advance .kept .1 .1 .1 .1 .1 .1 .1 .0 ∙ at-loop .loop .inv .6,
+      after-advance .advance .kept .1 .1 .1 .1 .1 .1 .1 .1 .0 ∙ at-loop .loop .inv .7,
+    )
 
 same-length : tie.Need-same-length Inv-loop μ-loop
 same-length c = search needs

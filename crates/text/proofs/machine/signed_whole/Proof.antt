@@ -2,7 +2,7 @@
 use mathlib.Core.Path.{sym, ap, _∙_}
 use borrow.Author.Tests.{eq-eqb, ne-eqb}
 use lib.Ieee as Ieee
-use Rattle.text.specs.Steps.{signedWhole}
+use Rattle.text.specs.Machine.{signedWhole}
 use borrow.Author.Needs.{needs}
 use Rattle.text.proofs.machine.signed_whole.Statement.{statement}
 use Rattle.text.proofs.machine.signed_whole.Tie as tie

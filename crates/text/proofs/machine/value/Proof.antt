@@ -14,7 +14,9 @@ signed-whole-requires : tie.Need-signed-whole-requires
 signed-whole-requires c κs = search needs
 
 returns : tie.Need-returns
-returns c = c .signed-whole .ensures ∙ (rw (c .before .at-u64 .ensures, c .before .before .at-u8 .ensures))
+returns c =
+    let after-at-u8 = c .before .before in
+    c .signed-whole .ensures ∙ (rw (c .before .at-u64 .ensures, after-at-u8 .at-u8 .ensures))
 
 pub value-spec : {M : Type 1} → statement M
 value-spec = tie.close (tie.spec at-u8-requires at-u64-requires signed-whole-requires returns)

@@ -1,7 +1,7 @@
 -- `text::scan::after` meets its contract.
 use mathlib.Core.Path.{sym}
 use borrow.Author.Tests.{lt-ltb, le-ltb}
-use Rattle.text.specs.Steps.{after}
+use Rattle.text.specs.Machine.{after}
 use borrow.Author.Needs.{needs}
 use Rattle.text.proofs.scan.after.Statement.{statement}
 use Rattle.text.proofs.scan.after.Tie as tie

@@ -1,8 +1,7 @@
 -- `text::scan::ends` meets its contract.
 use mathlib.Core.Path.{sym}
 use borrow.Author.Tests.{lt-ltb, le-ltb}
-use Rattle.text.specs.Steps.{ends, endOf}
-use borrow.Author.Needs.{needs}
+use Rattle.text.specs.Machine.{ends, endOf}
 use Rattle.text.proofs.scan.ends.Statement.{statement}
 use Rattle.text.proofs.scan.ends.Tie as tie
 

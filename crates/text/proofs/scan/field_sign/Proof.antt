@@ -1,18 +1,23 @@
 -- `text::scan::field_sign` meets its contract.
 use mathlib.Core.Path.{sym}
 use borrow.Author.Tests.{eq-eqb, ne-eqb}
-use Rattle.text.specs.Steps.{fieldSign}
-use borrow.Author.Needs.{needs}
+use Rattle.text.specs.Machine.{fieldSign}
 use Rattle.text.proofs.scan.field_sign.Statement.{statement}
 use Rattle.text.proofs.scan.field_sign.Tie as tie
 
 returns : tie.Need-returns
 unfolding fieldSign
-returns c = sym (simp (c .before .before .before .if1 .taken, c .before .before .if2 .taken, eq-eqb _ _ (c .if3 .taken)))
+returns c =
+    let at-if2 = c .before .before in
+    let at-if1 = at-if2 .before in
+    sym (simp (at-if1 .if1 .taken, at-if2 .if2 .taken, eq-eqb _ _ (c .if3 .taken)))
 
 returns-2 : tie.Need-returns-2
 unfolding fieldSign
-returns-2 c = sym (simp (c .before .before .before .if1 .taken, c .before .before .if2 .taken, ne-eqb _ _ (c .if3 .left)))
+returns-2 c =
+    let at-if2 = c .before .before in
+    let at-if1 = at-if2 .before in
+    sym (simp (at-if1 .if1 .taken, at-if2 .if2 .taken, ne-eqb _ _ (c .if3 .left)))
 
 returns-3 : tie.Need-returns-3
 unfolding fieldSign

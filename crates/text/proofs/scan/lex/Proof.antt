@@ -14,7 +14,12 @@ name-byte-requires c κs = search needs
 
 returns : tie.Need-returns
 unfolding settingNames
-returns c = (c .name-byte .ensures ∙ sym (lexed-0 _ _ (c .before .before .if1 .taken)), sym (lexedSizes-0 _ _ _ (c .before .before .if1 .taken)), sym (lexedSigns-0 _ _ _ (c .before .before .if1 .taken)))
+returns c =
+    let at-if1 = c .before .before in (
+      c .name-byte .ensures ∙ sym (lexed-0 _ _ (at-if1 .if1 .taken)),
+      sym (lexedSizes-0 _ _ _ (at-if1 .if1 .taken)),
+      sym (lexedSigns-0 _ _ _ (at-if1 .if1 .taken)),
+    )
 
 row-byte-requires : tie.Need-row-byte-requires
 row-byte-requires c κs = search needs
@@ -26,7 +31,13 @@ same-length-2 : tie.Need-same-length-2
 same-length-2 c = search needs
 
 returns-2 : tie.Need-returns-2
-returns-2 c = (c .before .before .before .before .row-byte .ensures .0 ∙ sym (lexed-1 _ _ (c .before .before .before .before .before .before .before .if2 .taken)), c .before .before .before .before .row-byte .ensures .1 ∙ sym (lexedSizes-1 _ _ _ (c .before .before .before .before .before .before .before .if2 .taken)), c .before .before .before .before .row-byte .ensures .2 ∙ sym (lexedSigns-1 _ _ _ (c .before .before .before .before .before .before .before .if2 .taken)))
+returns-2 c =
+    let after-row-byte = c .before .before .before .before in
+    let at-if2 = after-row-byte .before .before .before in (
+      after-row-byte .row-byte .ensures .0 ∙ sym (lexed-1 _ _ (at-if2 .if2 .taken)),
+      after-row-byte .row-byte .ensures .1 ∙ sym (lexedSizes-1 _ _ _ (at-if2 .if2 .taken)),
+      after-row-byte .row-byte .ensures .2 ∙ sym (lexedSigns-1 _ _ _ (at-if2 .if2 .taken)),
+    )
 
 slice-aggregate-name-byte-2 : tie.Need-slice-aggregate-name-byte-2
 slice-aggregate-name-byte-2 c = search needs
@@ -36,7 +47,12 @@ name-byte-requires-2 c κs = search needs
 
 returns-3 : tie.Need-returns-3
 unfolding fixNames
-returns-3 c = (c .name-byte2 .ensures ∙ sym (lexed-2 _ _ (c .before .before .if3 .taken)), sym (lexedSizes-2 _ _ _ (c .before .before .if3 .taken)), sym (lexedSigns-2 _ _ _ (c .before .before .if3 .taken)))
+returns-3 c =
+    let at-if3 = c .before .before in (
+      c .name-byte2 .ensures ∙ sym (lexed-2 _ _ (at-if3 .if3 .taken)),
+      sym (lexedSizes-2 _ _ _ (at-if3 .if3 .taken)),
+      sym (lexedSigns-2 _ _ _ (at-if3 .if3 .taken)),
+    )
 
 row-byte-requires-2 : tie.Need-row-byte-requires-2
 row-byte-requires-2 c κs = search needs
@@ -48,10 +64,23 @@ same-length-4 : tie.Need-same-length-4
 same-length-4 c = search needs
 
 returns-4 : tie.Need-returns-4
-returns-4 c = (c .before .before .before .before .row-byte2 .ensures .0 ∙ sym (lexed-3 _ _ (c .before .before .before .before .before .before .before .if4 .taken)), c .before .before .before .before .row-byte2 .ensures .1 ∙ sym (lexedSizes-3 _ _ _ (c .before .before .before .before .before .before .before .if4 .taken)), c .before .before .before .before .row-byte2 .ensures .2 ∙ sym (lexedSigns-3 _ _ _ (c .before .before .before .before .before .before .before .if4 .taken)))
+returns-4 c =
+    let after-row-byte2 = c .before .before .before .before in
+    let at-if4 = after-row-byte2 .before .before .before in (
+      after-row-byte2 .row-byte2 .ensures .0 ∙ sym (lexed-3 _ _ (at-if4 .if4 .taken)),
+      after-row-byte2 .row-byte2 .ensures .1 ∙ sym (lexedSizes-3 _ _ _ (at-if4 .if4 .taken)),
+      after-row-byte2 .row-byte2 .ensures .2 ∙ sym (lexedSigns-3 _ _ _ (at-if4 .if4 .taken)),
+    )
 
 returns-5 : tie.Need-returns-5
-returns-5 c = (sym (lexed-4 _ _ (c .before .before .before .before .before .before .if1 .left) (c .before .before .before .before .if2 .left) (c .before .before .if3 .left) (c .if4 .left)), sym (lexedSizes-4 _ _ _ (c .before .before .before .before .if2 .left) (c .if4 .left)), sym (lexedSigns-4 _ _ _ (c .before .before .before .before .if2 .left) (c .if4 .left)))
+returns-5 c =
+    let at-if3 = c .before .before in
+    let at-if2 = at-if3 .before .before in
+    let at-if1 = at-if2 .before .before in (
+      sym (lexed-4 _ _ (at-if1 .if1 .left) (at-if2 .if2 .left) (at-if3 .if3 .left) (c .if4 .left)),
+      sym (lexedSizes-4 _ _ _ (at-if2 .if2 .left) (c .if4 .left)),
+      sym (lexedSigns-4 _ _ _ (at-if2 .if2 .left) (c .if4 .left)),
+    )
 
 pub lex-spec : {M : Type 1} → statement M
 lex-spec =

@@ -1,7 +1,7 @@
 -- `text::scan::name_byte` meets its contract.
 use mathlib.Core.Path.{sym, _∙_}
 use borrow.Author.Tests.{eq-eqb, ne-eqb, lt-ltb, le-ltb}
-use Rattle.text.specs.Steps.{nameByte}
+use Rattle.text.specs.Machine.{nameByte}
 use borrow.Author.Needs.{needs}
 use Rattle.text.proofs.scan.name_byte.Statement.{statement}
 use Rattle.text.proofs.scan.name_byte.Tie as tie
@@ -21,7 +21,9 @@ refused-requires-2 c κs = search needs
 
 returns-2 : tie.Need-returns-2
 unfolding nameByte
-returns-2 c = c .refused2 .ensures ∙ sym (simp (lt-ltb _ _ (c .before .before .before .if1 .left), ne-eqb _ _ (c .before .if2 .taken)))
+returns-2 c =
+    let at-if1 = c .before .before .before in
+    c .refused2 .ensures ∙ sym (simp (lt-ltb _ _ (at-if1 .if1 .left), ne-eqb _ _ (c .before .if2 .taken)))
 
 add-if3 : tie.Need-add-if3
 add-if3 c = search needs
@@ -34,14 +36,20 @@ begun-requires c κs = search needs
 
 returns-3 : tie.Need-returns-3
 unfolding nameByte
-returns-3 c = c .begun .ensures ∙ sym (simp (lt-ltb _ _ (c .before .before .before .before .if1 .left), eq-eqb _ _ (c .before .before .if2 .left), lt-ltb _ _ (c .before .if3 .taken)))
+returns-3 c =
+    let at-if2 = c .before .before in
+    let at-if1 = at-if2 .before .before in
+    c .begun .ensures ∙ sym (simp (lt-ltb _ _ (at-if1 .if1 .left), eq-eqb _ _ (at-if2 .if2 .left), lt-ltb _ _ (c .before .if3 .taken)))
 
 begun-requires-2 : tie.Need-begun-requires-2
 begun-requires-2 c κs = search needs
 
 returns-4 : tie.Need-returns-4
 unfolding nameByte
-returns-4 c = c .begun2 .ensures ∙ sym (simp (lt-ltb _ _ (c .before .before .before .before .if1 .left), eq-eqb _ _ (c .before .before .if2 .left), le-ltb _ _ (c .before .if3 .left)))
+returns-4 c =
+    let at-if2 = c .before .before in
+    let at-if1 = at-if2 .before .before in
+    c .begun2 .ensures ∙ sym (simp (lt-ltb _ _ (at-if1 .if1 .left), eq-eqb _ _ (at-if2 .if2 .left), le-ltb _ _ (c .before .if3 .left)))
 
 pub name-byte-spec : {M : Type 1} → statement M
 name-byte-spec =

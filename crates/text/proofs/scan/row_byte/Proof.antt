@@ -1,7 +1,7 @@
 -- `text::scan::row_byte` meets its contract.
 use mathlib.Core.Path.{sym, _∙_}
 use borrow.Author.Tests.{eq-eqb, ne-eqb}
-use Rattle.text.specs.Steps.{rowByte, rowSizes, rowSigns}
+use Rattle.text.specs.Machine.{rowByte, rowSizes, rowSigns}
 use borrow.Author.Needs.{needs}
 use Rattle.text.proofs.scan.row_byte.Statement.{statement}
 use Rattle.text.proofs.scan.row_byte.Tie as tie
@@ -29,7 +29,17 @@ same-length-2 c = search needs
 
 returns : tie.Need-returns
 unfolding rowByte rowSizes rowSigns
-returns c = (c .refused .ensures ∙ sym (simp (← c .before .before .before .before .before .before .before .before .before .before .before .before .ends .ensures, c .before .before .before .before .before .before .before .before .before .before .before .if1 .taken, ← c .before .before .before .before .before .before .before .before .before .before .field-sign .ensures, eq-eqb _ _ (c .before .if2 .taken))), c .before .before .before .before .before .before .before .before .put-u64 .ensures ∙ sym (simp (← c .before .before .before .before .before .before .before .before .before .before .before .before .ends .ensures, c .before .before .before .before .before .before .before .before .before .before .before .if1 .taken)), c .before .before .before .before .put-u8 .ensures ∙ sym (simp (← c .before .before .before .before .before .before .before .before .before .before .before .before .ends .ensures, c .before .before .before .before .before .before .before .before .before .before .before .if1 .taken, ← c .before .before .before .before .before .before .before .before .before .before .field-sign .ensures)))
+returns c =
+    let after-put-u8 = c .before .before .before .before in
+    let after-put-u64 = after-put-u8 .before .before .before .before in
+    let after-field-sign = after-put-u64 .before .before in
+    let at-if1 = after-field-sign .before in
+    let after-ends = at-if1 .before in (
+      c .refused .ensures ∙ sym
+          (simp (← after-ends .ends .ensures, at-if1 .if1 .taken, ← after-field-sign .field-sign .ensures, eq-eqb _ _ (c .before .if2 .taken))),
+      after-put-u64 .put-u64 .ensures ∙ sym (simp (← after-ends .ends .ensures, at-if1 .if1 .taken)),
+      after-put-u8 .put-u8 .ensures ∙ sym (simp (← after-ends .ends .ensures, at-if1 .if1 .taken, ← after-field-sign .field-sign .ensures)),
+    )
 
 after-requires : tie.Need-after-requires
 after-requires c κs = search needs
@@ -45,14 +55,37 @@ same-length-4 c = search needs
 
 returns-2 : tie.Need-returns-2
 unfolding rowByte rowSizes rowSigns
-returns-2 c = (c .begun .ensures ∙ sym (simp (← c .before .before .before .before .before .before .before .before .before .before .before .before .before .ends .ensures, c .before .before .before .before .before .before .before .before .before .before .before .before .if1 .taken, ← c .before .before .before .before .before .before .before .before .before .before .before .field-sign .ensures, ne-eqb _ _ (c .before .before .if2 .left), ← c .before .after .ensures)), c .before .before .before .before .before .before .before .before .before .put-u64 .ensures ∙ sym (simp (← c .before .before .before .before .before .before .before .before .before .before .before .before .before .ends .ensures, c .before .before .before .before .before .before .before .before .before .before .before .before .if1 .taken)), c .before .before .before .before .before .put-u8 .ensures ∙ sym (simp (← c .before .before .before .before .before .before .before .before .before .before .before .before .before .ends .ensures, c .before .before .before .before .before .before .before .before .before .before .before .before .if1 .taken, ← c .before .before .before .before .before .before .before .before .before .before .before .field-sign .ensures)))
+returns-2 c =
+    let at-if2 = c .before .before in
+    let after-put-u8 = at-if2 .before .before .before in
+    let after-put-u64 = after-put-u8 .before .before .before .before in
+    let after-field-sign = after-put-u64 .before .before in
+    let at-if1 = after-field-sign .before in
+    let after-ends = at-if1 .before in (
+      c .begun .ensures ∙ sym
+          (simp (
+            ← after-ends .ends .ensures,
+            at-if1 .if1 .taken,
+            ← after-field-sign .field-sign .ensures,
+            ne-eqb _ _ (at-if2 .if2 .left),
+            ← c .before .after .ensures,
+          )),
+      after-put-u64 .put-u64 .ensures ∙ sym (simp (← after-ends .ends .ensures, at-if1 .if1 .taken)),
+      after-put-u8 .put-u8 .ensures ∙ sym (simp (← after-ends .ends .ensures, at-if1 .if1 .taken, ← after-field-sign .field-sign .ensures)),
+    )
 
 field-byte-requires : tie.Need-field-byte-requires
 field-byte-requires c κs = search needs
 
 returns-3 : tie.Need-returns-3
 unfolding rowByte rowSizes rowSigns
-returns-3 c = (c .field-byte .ensures ∙ sym (simp (← c .before .before .ends .ensures, c .before .if1 .left)), sym (simp (← c .before .before .ends .ensures, c .before .if1 .left)), sym (simp (← c .before .before .ends .ensures, c .before .if1 .left)))
+returns-3 c =
+    let at-if1 = c .before in
+    let after-ends = at-if1 .before in (
+      c .field-byte .ensures ∙ sym (simp (← after-ends .ends .ensures, at-if1 .if1 .left)),
+      sym (simp (← after-ends .ends .ensures, at-if1 .if1 .left)),
+      sym (simp (← after-ends .ends .ensures, at-if1 .if1 .left)),
+    )
 
 pub row-byte-spec : {M : Type 1} → statement M
 row-byte-spec =

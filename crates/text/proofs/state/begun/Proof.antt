@@ -1,5 +1,5 @@
 -- `text::state::begun` meets its contract.
-use Rattle.text.specs.Steps.{begun}
+use Rattle.text.specs.Machine.{begun}
 use borrow.Author.Needs.{needs}
 use Rattle.text.proofs.state.begun.Statement.{statement}
 use Rattle.text.proofs.state.begun.Tie as tie

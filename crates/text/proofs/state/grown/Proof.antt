@@ -1,5 +1,5 @@
 -- `text::state::grown` meets its contract.
-use Rattle.text.specs.Steps.{grown}
+use Rattle.text.specs.Machine.{grown}
 use borrow.Author.Needs.{needs}
 use Rattle.text.proofs.state.grown.Statement.{statement}
 use Rattle.text.proofs.state.grown.Tie as tie

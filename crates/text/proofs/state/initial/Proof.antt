@@ -1,7 +1,6 @@
 -- `text::state::initial` meets its contract.
 use mathlib.Core.Path.{refl}
-use Rattle.text.specs.Steps.{initial}
-use borrow.Author.Needs.{needs}
+use Rattle.text.specs.Machine.{initial}
 use Rattle.text.proofs.state.initial.Statement.{statement}
 use Rattle.text.proofs.state.initial.Tie as tie
 

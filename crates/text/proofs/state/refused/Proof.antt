@@ -1,5 +1,5 @@
 -- `text::state::refused` meets its contract.
-use Rattle.text.specs.Steps.{refused}
+use Rattle.text.specs.Machine.{refused}
 use borrow.Author.Needs.{needs}
 use Rattle.text.proofs.state.refused.Statement.{statement}
 use Rattle.text.proofs.state.refused.Tie as tie

@@ -1,5 +1,5 @@
 -- `text::state::signed` meets its contract.
-use Rattle.text.specs.Steps.{signed}
+use Rattle.text.specs.Machine.{signed}
 use borrow.Author.Needs.{needs}
 use Rattle.text.proofs.state.signed.Statement.{statement}
 use Rattle.text.proofs.state.signed.Tie as tie

@@ -1,0 +1,4 @@
+pub mod Traces
+pub mod Tracks
+pub mod Steps
+pub mod Examples

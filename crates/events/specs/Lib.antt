@@ -1,3 +1,0 @@
-pub mod FixLabels
-pub mod Events
-pub mod Found

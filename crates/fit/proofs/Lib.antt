@@ -1,3 +1,0 @@
-pub mod Theorem
-pub mod Accepted
-pub mod FittedPlaces

@@ -1,4 +1,0 @@
-pub mod Fit
-pub mod Demand
-pub mod Tries
-pub mod Facts

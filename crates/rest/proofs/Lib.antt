@@ -1,7 +1,0 @@
--- Theorems on the grouping run.
-pub mod Quiet
-pub mod Answers
-pub mod Joined
-pub mod KeptTrial
-pub mod LastRound
-pub mod Marks

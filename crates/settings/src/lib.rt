@@ -1,0 +1,3 @@
+// The settings of a fit, the refusals, and the check of the settings (docs/RULES.md, "When no labels are given", 1 to 6).
+pub mod config;
+pub mod refusal;

@@ -1,0 +1,3 @@
+pub mod Fixes
+pub mod Marks
+pub mod Parts

@@ -1,7 +1,0 @@
-pub mod Refusals
-pub mod Checks
-pub mod Settings
-pub mod Traces
-pub mod Columns
-pub mod Tracks
-pub mod Examples

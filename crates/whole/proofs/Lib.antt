@@ -1,6 +1,0 @@
-pub mod WholeSums
-pub mod WholeMoves
-pub mod Afresh
-pub mod Carried
-pub mod Renumbered
-pub mod WholeNetwork
