@@ -7,7 +7,7 @@ use edited::infomap::{self, run_infomap, Network};
 use edited::model::{self, Infostop};
 use edited::neighbors::{query_neighbors, BruteForceNeighbors};
 use edited::record;
-use edited::refusal::refusal;
+use edited::refusal::{is_out_of_bounds, refusal};
 use edited::standin;
 use edited::stay::get_stationary_events;
 use edited::text::{fail, Line, Numbers};
@@ -16,12 +16,13 @@ use edited::types::{Point, TimedPoint};
 const MOST: u64 = 65_536;
 
 fn float(n: &mut Numbers, out: &mut Line) {
-    let op = n.up_to(2);
+    let op = n.up_to(3);
     let x = n.float();
     out.float(match op {
         0 => x.sqrt(),
         1 => standin::ln(x),
-        _ => infomap::access::plogp(x),
+        2 => infomap::access::plogp(x),
+        _ => model::access::round(x),
     });
 }
 
@@ -59,9 +60,10 @@ fn stay(n: &mut Numbers, out: &mut Line) {
     let min_size = n.up_to(u64::MAX);
     let min_staying_time = n.float();
     let max_time_between = n.float();
+    let resolution = n.float();
     let len = n.up_to(MOST);
     let fixes: Vec<TimedPoint> = (0..len).map(|_| fix(n)).collect();
-    let events = get_stationary_events(
+    let mut events = get_stationary_events(
         &fixes,
         r1,
         min_size,
@@ -69,6 +71,7 @@ fn stay(n: &mut Numbers, out: &mut Line) {
         max_time_between,
         &Euclidean,
     );
+    model::access::on_grid(&mut events.medians, resolution);
     for e in events.event_map {
         out.put(e);
     }
@@ -166,6 +169,7 @@ fn fit_case(n: &mut Numbers) -> (Config, Vec<Vec<TimedPoint>>) {
     let min_staying_time = n.float();
     let max_time_between = n.float();
     let min_size = n.up_to(u64::MAX);
+    let min_spatial_resolution = n.float();
     let seed = n.next();
     let config = Config {
         r1,
@@ -174,6 +178,7 @@ fn fit_case(n: &mut Numbers) -> (Config, Vec<Vec<TimedPoint>>) {
         min_staying_time,
         max_time_between,
         min_size,
+        min_spatial_resolution,
         seed,
         distance_metric: MetricKind::Euclidean,
         ..Config::default()
@@ -187,11 +192,16 @@ fn fit_case(n: &mut Numbers) -> (Config, Vec<Vec<TimedPoint>>) {
     (config, traces)
 }
 
-/// Fits, and puts 0 0 and the answer, or the refusal.
+/// Fits, and puts 0 0 and the answer, or the refusal. 24 is added: it comes behind the Rust's check of the settings, before its check of the tracks.
 fn fit(n: &mut Numbers, out: &mut Line) {
     let (config, traces) = fit_case(n);
+    let resolution = config.min_spatial_resolution;
     let run = || {
         let mut model = Infostop::from_config(config)?;
+        if is_out_of_bounds(resolution) {
+            out.put(24).put(0);
+            return Ok(());
+        }
         record::clear();
         let labels = model.fit_predict_many(&traces)?;
         out.put(0).put(0);

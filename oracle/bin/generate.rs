@@ -1,8 +1,12 @@
 //! generate LAYER: writes the list of cases of a layer, always the same. The layers and their forms are in README.md.
+//! generate fits FOLDER COUNT SEED: writes COUNT made fits into FOLDER, in lists that `replay_fit` has room for, always the same ones for a seed.
+use edited::fit::{timed_pair, twice, untimed, Fit};
+use edited::grid;
 use edited::infomap::{run_infomap, Network};
 use edited::random::Random;
 use edited::record;
 use edited::text::{fail, Line};
+use std::path::Path;
 
 type Cases = Vec<Line>;
 
@@ -100,6 +104,43 @@ fn logarithms(r: &mut Random) -> Vec<f64> {
     v
 }
 
+/// Roundings: halves with their neighbours up to where there are none, whole numbers, what is below a half, subnormals, and any pattern.
+fn roundings(r: &mut Random) -> Vec<f64> {
+    let mut v = Vec::new();
+    for x in specials() {
+        v.push(x);
+        v.push(-x);
+    }
+    let mut sizes = vec![0.5, 0.3, 0.25, 2.5, 1e6, 1e9, 1e15, 1e300];
+    sizes.extend((1..40).map(|k| f64::from(k) + 0.5));
+    for k in 1..=52 {
+        let p = f64::powi(2.0, k);
+        sizes.extend([p - 0.5, p + 0.5]);
+    }
+    for k in [50, 51, 52, 53, 54, 62, 63, 64, 100, 1023] {
+        sizes.extend([f64::powi(2.0, k), f64::powi(2.0, k) - 1.0]);
+    }
+    for _ in 0..60 {
+        let k = r.next() >> r.between(13, 50);
+        sizes.push(k as f64 + 0.5);
+    }
+    for x in sizes {
+        for y in [x, x.next_down(), x.next_up()] {
+            v.extend([y, -y]);
+        }
+    }
+    for _ in 0..100 {
+        v.push((r.unit() - 0.5) * r.pick(&[2.0, 10.0, 1e4, 1e10]));
+    }
+    for _ in 0..60 {
+        v.push(f64::from_bits(r.next() >> r.between(12, 63)));
+    }
+    for _ in 0..200 {
+        v.push(f64::from_bits(r.next()));
+    }
+    v
+}
+
 /// Values on which ln by a series that starts at 1/25 has another last bit: the smallest whole number, and of the fractions a/b below 2 the two
 /// with the smallest b.
 const LONGER_SERIES: [f64; 3] = [389_721.0, 301.0 / 204.0, 493.0 / 335.0];
@@ -118,6 +159,7 @@ fn float(r: &mut Random) -> Cases {
     all(2, logarithms(r));
     all(1, LONGER_SERIES.to_vec());
     all(2, LONGER_SERIES.to_vec());
+    all(3, roundings(r));
     cases
 }
 
@@ -205,29 +247,58 @@ fn radius(r: &mut Random, kind: usize, usual: &[f64]) -> f64 {
     }
 }
 
+/// A trace whose stays are found without a grid.
+fn stay_off(r: &mut Random, i: usize) -> Line {
+    let mut line = Line::default();
+    let kind = r.below(6);
+    line.float(radius(r, kind, &[5.0, 10.0, 2.5, 1.0, 7.3]));
+    line.put(if r.chance(12) { r.below(2) } else { r.between(2, 5) });
+    line.float(r.pick(&[300.0, 100.0, 50.0, 1e-3, 1.7e308]));
+    line.float(r.pick(&[86_400.0, 400.0, 100.0, 1.7e308]));
+    line.float(0.0);
+    let n = match i {
+        0..=3 => i,
+        _ if i % 90 == 0 => r.between(200, 400),
+        _ => r.between(1, 30),
+    };
+    line.put(n);
+    if i % 15 == 7 {
+        put_huge_times(r, &mut line, n);
+    } else {
+        put_fixes(r, &mut line, n, kind);
+    }
+    line
+}
+
+/// Resolutions of the list of stays.
+const RESOLUTIONS: [f64; 11] =
+    [grid::LEAST, 0.1, 0.25, 0.3, 1.0, 2.0, 4.0, 7.0, 1000.0, grid::MOST, -0.0];
+
+/// Some that a fit refuses; the search for stays checks no settings.
+const REFUSED: [f64; 7] =
+    [f64::NAN, f64::INFINITY, -1.0, 1e-310, 1e-300, 1e200, f64::MAX];
+
+/// A trace with stays whose medians are put on a grid.
+fn stay_on(r: &mut Random, i: usize) -> Line {
+    let mut line = Line::default();
+    let kind = r.pick(&[0, 0, 1, 2, 2, 3, 4, 5]);
+    line.float(radius(r, kind, &[5.0, 2.5, 1.0]));
+    line.put(2).float(1e-3).float(86_400.0);
+    line.float(if i % 10 == 9 {
+        r.pick(&REFUSED)
+    } else {
+        r.pick(&RESOLUTIONS)
+    });
+    let n = r.between(4, 18);
+    line.put(n);
+    put_fixes(r, &mut line, n, kind);
+    line
+}
+
 fn stay(r: &mut Random) -> Cases {
-    (0..800)
-        .map(|i| {
-            let mut line = Line::default();
-            let kind = r.below(6);
-            line.float(radius(r, kind, &[5.0, 10.0, 2.5, 1.0, 7.3]));
-            line.put(if r.chance(12) { r.below(2) } else { r.between(2, 5) });
-            line.float(r.pick(&[300.0, 100.0, 50.0, 1e-3, 1.7e308]));
-            line.float(r.pick(&[86_400.0, 400.0, 100.0, 1.7e308]));
-            let n = match i {
-                0..=3 => i,
-                _ if i % 90 == 0 => r.between(200, 400),
-                _ => r.between(1, 30),
-            };
-            line.put(n);
-            if i % 15 == 7 {
-                put_huge_times(r, &mut line, n);
-            } else {
-                put_fixes(r, &mut line, n, kind);
-            }
-            line
-        })
-        .collect()
+    let mut cases: Cases = (0..800).map(|i| stay_off(r, i)).collect();
+    cases.extend((0..100).map(|i| stay_on(r, i)));
+    cases
 }
 
 // ---- neighbors
@@ -512,64 +583,6 @@ fn infomap(r: &mut Random) -> Cases {
 
 // ---- fit
 
-#[derive(Clone)]
-struct Fit {
-    r1: f64,
-    r2: f64,
-    single: u32,
-    stay: f64,
-    gap: f64,
-    size: u64,
-    seed: u64,
-    traces: Vec<Vec<(f64, f64, Option<f64>)>>,
-}
-
-/// The settings of the rules' examples.
-const EXAMPLE: Fit = Fit {
-    r1: 10.0,
-    r2: 10.0,
-    single: 1,
-    stay: 300.0,
-    gap: 86_400.0,
-    size: 2,
-    seed: 42,
-    traces: Vec::new(),
-};
-
-impl Fit {
-    fn with(traces: Vec<Vec<(f64, f64, Option<f64>)>>) -> Self {
-        Self { traces, ..EXAMPLE }
-    }
-
-    fn line(&self) -> Line {
-        let mut line = Line::default();
-        line.float(self.r1).float(self.r2).put(self.single);
-        line.float(self.stay).float(self.gap).put(self.size).put(self.seed);
-        line.put(self.traces.len());
-        for t in &self.traces {
-            line.put(t.len());
-        }
-        for &(x, y, time) in self.traces.iter().flatten() {
-            line.float(x).float(y).put(u32::from(time.is_some()));
-            line.float(time.unwrap_or(0.0));
-        }
-        line
-    }
-}
-
-fn untimed(points: &[(f64, f64)]) -> Vec<(f64, f64, Option<f64>)> {
-    points.iter().map(|p| (p.0, p.1, None)).collect()
-}
-
-/// Two fixes at one point.
-fn twice(x: f64, y: f64) -> Vec<(f64, f64, Option<f64>)> {
-    untimed(&[(x, y), (x, y)])
-}
-
-fn timed_pair(a: f64, b: f64) -> Vec<(f64, f64, Option<f64>)> {
-    vec![(0.0, 0.0, Some(a)), (0.0, 0.0, Some(b))]
-}
-
 /// The rules' tracks to try, and a track that the original labels in two ways.
 fn examples() -> Vec<Fit> {
     let mut fits = vec![
@@ -794,24 +807,64 @@ fn fit(r: &mut Random) -> Cases {
         fits.push(standing(r, places));
     }
     fits.extend(telling_fits());
+    fits.extend(grid::fixed(r, 120));
     fits.iter().map(Fit::line).collect()
 }
 
-fn main() {
-    let args: Vec<String> = std::env::args().collect();
-    let layer: fn(&mut Random) -> Cases =
-        match args.get(1).map(String::as_str) {
-            Some("float") if args.len() == 2 => float,
-            Some("rng") if args.len() == 2 => rng,
-            Some("stay") if args.len() == 2 => stay,
-            Some("neighbors") if args.len() == 2 => neighbors,
-            Some("infomap") if args.len() == 2 => infomap,
-            Some("fit") if args.len() == 2 => fit,
-            _ => fail("usage: generate float|rng|stay|neighbors|infomap|fit"),
-        };
-    let cases = layer(&mut Random(20_261_115));
+/// COUNT made fits as lists of at most 400, each below the 1,000,000 bytes that `replay_fit` has room for.
+fn write_fits(folder: &str, count: usize, seed: u64) {
+    let mut r = Random(seed);
+    let mut left = count;
+    let mut number = 0;
+    while left > 0 {
+        let n = left.min(400);
+        let mut text = format!("{n}\n");
+        for _ in 0..n {
+            text += &grid::made(&mut r, 6).line().text();
+            text.push('\n');
+        }
+        let path = Path::new(folder).join(format!("{number:04}.cases"));
+        if text.len() > 1_000_000 {
+            fail(&format!("{}: more than 1,000,000 bytes", path.display()));
+        }
+        if let Err(e) = std::fs::write(&path, text) {
+            fail(&format!("{} cannot be written: {e}", path.display()));
+        }
+        left -= n;
+        number += 1;
+    }
+}
+
+/// The fixed list of a layer.
+fn write_list(layer: &str) {
+    let make: fn(&mut Random) -> Cases = match layer {
+        "float" => float,
+        "rng" => rng,
+        "stay" => stay,
+        "neighbors" => neighbors,
+        "infomap" => infomap,
+        "fit" => fit,
+        _ => fail(USAGE),
+    };
+    let cases = make(&mut Random(20_261_115));
     println!("{}", cases.len());
     for line in cases {
         println!("{}", line.text());
+    }
+}
+
+const USAGE: &str = "usage: generate float|rng|stay|neighbors|infomap|fit, or generate fits FOLDER COUNT SEED";
+
+fn main() {
+    let args: Vec<String> = std::env::args().collect();
+    match args[1..].iter().map(String::as_str).collect::<Vec<_>>()[..] {
+        ["fits", folder, count, seed] => {
+            let (Ok(count), Ok(seed)) = (count.parse(), seed.parse()) else {
+                fail("COUNT and SEED are whole numbers");
+            };
+            write_fits(folder, count, seed);
+        }
+        [layer] => write_list(layer),
+        _ => fail(USAGE),
     }
 }

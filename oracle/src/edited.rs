@@ -3,6 +3,8 @@ pub mod cluster;
 pub mod config;
 pub mod distance;
 pub mod error;
+pub mod fit;
+pub mod grid;
 pub mod infomap;
 pub mod model;
 pub mod neighbors;

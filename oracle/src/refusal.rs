@@ -4,7 +4,7 @@ use crate::text::fail;
 
 /// The rules' number of a refusal, and its trace.
 pub fn refusal(e: &Error) -> (u32, usize) {
-    const CAUSES: [(&str, u32); 13] = [
+    const CAUSES: [(&str, u32); 14] = [
         ("`r1` must", 1),
         ("`r2` must", 2),
         ("`min_staying_time` must be finite", 3),
@@ -18,6 +18,7 @@ pub fn refusal(e: &Error) -> (u32, usize) {
         ("timestamps must be present", 14),
         ("timestamps must be ordered", 15),
         ("no stop locations labeled", 18),
+        ("`min_spatial_resolution` must", 23),
     ];
     let message = e.to_string();
     let Some((_, number)) = CAUSES.iter().find(|(c, _)| message.contains(c))
@@ -29,4 +30,9 @@ pub fn refusal(e: &Error) -> (u32, usize) {
         .and_then(|t| t.split(':').next())
         .map_or(0, |t| t.parse().expect("a trace number"));
     (*number, trace)
+}
+
+/// 24, which the Rust does not have: a resolution between zero and 2^-10, both excluded, or above 10^6.
+pub fn is_out_of_bounds(resolution: f64) -> bool {
+    (resolution > 0.0 && resolution < 1.0 / 1024.0) || resolution > 1e6
 }

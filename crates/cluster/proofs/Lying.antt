@@ -10,7 +10,7 @@ use lib.ListN.{length, getD, replicate, length-append}
 use Rattle.distance.specs.declared.Point.{Point}
 use Rattle.settings.specs.declared.config.Config.{Config}
 use Rattle.trace.specs.Trace.{Fix, timed}
-use Rattle.stay.specs.Stays.{isStay, middle, joins, groupsFrom, groups, mediansOf, fixMediansOf, stayMedians, fixMedians, allMedians, allFixMedians}
+use Rattle.stay.specs.Stays.{isStay, stayMedian, joins, groupsFrom, groups, mediansOf, fixMediansOf, stayMedians, fixMedians, allMedians, allFixMedians}
 use Rattle.stay.proofs.Groups.{groups-join, groups-close, groups-end}
 use Rattle.neighbors.specs.Places.{placeOf, places}
 use Rattle.distance.specs.Distance.{Metric}
@@ -73,11 +73,11 @@ module _ (dist : Metric) (s : Config) where
   in-stay t [] m f h = absurd h
   in-stay t (g ∷ gs) m f h = go (isStay s t g) refl h (in-stay t gs m (f .1))
     where
-      go : (b : Bool) → isStay s t g ≡ b → Among (cond b (middle g ∷ mediansOf s t gs) (mediansOf s t gs)) m → (Among (mediansOf s t gs) m → SomeAt (fixMediansOf s t gs) m)
-          → SomeAt (replicate (length g) (cond (isStay s t g) (some (middle g)) none) ++ fixMediansOf s t gs) m
-      go true e (inl q) ih = some-left (replicate (length g) (cond (isStay s t g) (some (middle g)) none)) (fixMediansOf s t gs) m (some-first (length g) _ m (f .0) (rw (e, q)))
-      go true e (inr k) ih = some-right (replicate (length g) (cond (isStay s t g) (some (middle g)) none)) (fixMediansOf s t gs) m (ih k)
-      go false e k ih = some-right (replicate (length g) (cond (isStay s t g) (some (middle g)) none)) (fixMediansOf s t gs) m (ih k)
+      go : (b : Bool) → isStay s t g ≡ b → Among (cond b (stayMedian s g ∷ mediansOf s t gs) (mediansOf s t gs)) m → (Among (mediansOf s t gs) m → SomeAt (fixMediansOf s t gs) m)
+          → SomeAt (replicate (length g) (cond (isStay s t g) (some (stayMedian s g)) none) ++ fixMediansOf s t gs) m
+      go true e (inl q) ih = some-left (replicate (length g) (cond (isStay s t g) (some (stayMedian s g)) none)) (fixMediansOf s t gs) m (some-first (length g) _ m (f .0) (rw (e, q)))
+      go true e (inr k) ih = some-right (replicate (length g) (cond (isStay s t g) (some (stayMedian s g)) none)) (fixMediansOf s t gs) m (ih k)
+      go false e k ih = some-right (replicate (length g) (cond (isStay s t g) (some (stayMedian s g)) none)) (fixMediansOf s t gs) m (ih k)
 
   in-trace : (t : List Fix) (m : Point) → Among (stayMedians dist s t) m → SomeAt (fixMedians dist s t) m
   unfolding stayMedians fixMedians

@@ -3,3 +3,4 @@ pub mod Size
 pub mod Symmetric
 pub mod Bound
 pub mod Limit
+pub mod GridLaws

@@ -1,17 +1,21 @@
--- The sizes of binary64 values: every operation here takes arguments of larger size to a result of larger size.
-use mathlib.Core.Path.{_≡_, refl, sym, subst}
+-- The sizes of binary64 values: every operation here takes arguments of larger size to a result of larger size. And sizes against
+-- whole numbers.
+use mathlib.Core.Path.{_≡_, refl, sym, ap, _∙_, subst}
 use Prim.Native.Nat.{ℕ, zero, suc, _+_, _-_, _*_, _/_, _%_, _^_, _≤_, _<_, compare}
-use native.Mathlib.Nat.{mul-le-mul, mul-le-mul-right, mul-pos}
+use native.Mathlib.Nat.{le-trans, le-of-eq, zero-lt-suc, mul-one, mul-right-comm, mul-le-mul, mul-le-mul-right, le-of-mul-le-mul-right, mul-pos}
 use native.Mathlib.Omega.{arith}
 use mathlib.Core.Bool.{Bool, true, false, _&&_, _||_, Bool·beq, cond}
 use borrow.Author.Tests.{ltb-true, ltb-false, leb-true, leb-false, eqb-true, eqb-false}
-use lib.Dec.{T, leb, ltb, eqb}
+use lib.Dec.{T, leb, ltb, eqb, leb→le, le→leb}
 use lib.Ieee.{Float, nan, inf, fin, Format, binary64, prec, emax, low, up, down, unlike, size, nearest, odd, units, round, sum, add, sub, mul, neg, lt, le, eq}
 use lib.Ieee.Fits.{down-pos}
 use lib.Ieee.Order.{round-mono, le-of-values}
 use lib.Ieee.Scale.{finite}
+use Rattle.float.specs.Binary64.{whole64}
 use Rattle.float.specs.Root.{isqrt, rootUnits, root}
+use Rattle.float.proofs.Exact.{Is, most, is-whole, is-round}
 use Rattle.float.proofs.Monotone.{nonneg, test-le, drop, keptDigits, root-mono, root-units}
+use Rattle.distance.specs.Limit.{within}
 
 -- x without its sign
 abbrev pub abs : Float → Float
@@ -248,3 +252,57 @@ root-nonneg (fin false (suc m) e) X h p = units-root-nonneg binary64 (suc m * up
 pub root-under : (x X : Float) → T (nonneg x) → T (nonneg X) → T (nonneg (root binary64 X)) → T (finite (root binary64 X)) → Under x X → Under (root binary64 x) (root binary64 X)
 root-under x X p q r f h =
     le-under (root binary64 x) (root binary64 X) (root-nonneg x X h p) r f (root-mono binary64 x X p q (under-le x X p q h))
+
+-- ---- a size against a whole number
+
+pub within-mono : (k l : ℕ) (x : Float) → k ≤ l → T (within k x) → T (within l x)
+unfolding within
+within-mono k l nan h w = absurd w
+within-mono k l (inf s) h w = absurd w
+within-mono k l (fin s m e) h w = le→leb (m * up e) (l * down e) (le-trans (leb→le (m * up e) (k * down e) w) (mul-le-mul-right (down e) h))
+
+-- a value within k, against k as a float
+pub within-under : (k : ℕ) (x : Float) → k ≤ most → T (within k x) → Under x (whole64 k)
+unfolding within
+within-under k x l w = go x (whole64 k) w (is-whole k l)
+  where
+    size : (a b p q : ℕ) → a ≤ k * b → p * 1 ≡ k * q → a * q ≤ p * b
+    size a b p q h e = let z : a * q ≤ k * b * q = mul-le-mul-right q h in let y : p * 1 * b ≡ k * q * b = ap (λ (i : ℕ). i * b) e in omega arith
+
+    go : (x y : Float) → T (within k x) → Is y false k → Under x y
+    go nan y w i = absurd w
+    go (inf s) y w i = absurd w
+    go (fin s m e) nan w i = absurd i
+    go (fin s m e) (inf t) w i = absurd i
+    go (fin s m e) (fin t n d) w i = size (m * up e) (down e) (n * up d) (down d) (leb→le (m * up e) (k * down e) w) (i .1)
+
+pub under-within : (k : ℕ) (x y : Float) → Under x y → T (within k y) → T (within k x)
+unfolding within
+under-within k nan y h w = absurd h
+under-within k (inf s) y h w = absurd h
+under-within k (fin s m e) nan h w = absurd h
+under-within k (fin s m e) (inf t) h w = absurd h
+under-within k (fin s m e) (fin t n d) h w =
+    le→leb (m * up e) (k * down e)
+    (le-of-mul-le-mul-right {k = down d}
+    (le-trans h (le-trans (mul-le-mul-right (down e) (leb→le (n * up d) (k * down d) w)) (le-of-eq (mul-right-comm k (down d) (down e)))))
+    (down-pos d))
+
+-- a fraction of at most k is rounded to a value within k, which the format holds
+pub round-within : (s : Bool) (a c k : ℕ) → 0 < c → k ≤ most → a ≤ k * c → T (within k (round binary64 s a c))
+unfolding within
+round-within s a c k C l h =
+    let v = is-round false k l in
+    under-within k (round binary64 s a c) (round binary64 false k 1)
+    (round-under s false a c k 1 C (zero-lt-suc 0) (is-finite (round binary64 false k 1) v) (le-trans (le-of-eq (mul-one a)) h))
+    (is-within (round binary64 false k 1) v)
+  where
+    is-finite : (x : Float) → Is x false k → T (finite x)
+    is-finite nan v = absurd v
+    is-finite (inf t) v = absurd v
+    is-finite (fin t m e) v = tt
+
+    is-within : (x : Float) → Is x false k → T (within k x)
+    is-within nan v = absurd v
+    is-within (inf t) v = absurd v
+    is-within (fin t m e) v = le→leb (m * up e) (k * down e) (le-of-eq (sym (mul-one (m * up e)) ∙ v .1))

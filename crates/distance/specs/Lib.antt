@@ -1,2 +1,3 @@
 pub mod Distance
 pub mod Limit
+pub mod Grid

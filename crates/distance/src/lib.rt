@@ -3,6 +3,8 @@ ghost use mathlib.Core.Path.{_≡_};
 ghost use Rattle.distance.specs.Distance.{Measured};
 ghost use Rattle.distance.specs.Limit.{limit, within, inLimit};
 
+pub mod grid;
+
 // A fix, a median or a place.
 pub struct Point {
     pub x: f64,

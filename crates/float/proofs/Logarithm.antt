@@ -16,7 +16,7 @@ use lib.Ieee.Bits.{is-true, is-false, ofBits-fits}
 use Rattle.float.specs.Binary64.{sub64, whole64}
 use Rattle.float.specs.Ln.{lnOf, shift, ln}
 use Rattle.float.specs.Steps.{Unpacked, Normal}
-use Rattle.float.proofs.Rounding.{size-is}
+use Rattle.float.proofs.RootDigits.{size-is}
 use Rattle.float.proofs.Unpacking.{of-normal}
 use Rattle.float.proofs.Packing.{value-unique}
 use Rattle.float.proofs.Exact.{whole-difference}

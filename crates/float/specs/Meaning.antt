@@ -1,7 +1,7 @@
--- What the root and the logarithm's k and m are, in whole numbers: `root` and `shift` are proved to be these (proofs/RootLaws.antt, Split.antt).
--- Definitions only.
+-- What the root, the logarithm's k and m and the rounding to a whole number are, in whole numbers: `root`, `shift` and `roundTiesAway` are proved to be these
+-- (proofs/RootLaws.antt, Split.antt, RoundLaws.antt). Definitions only.
 use mathlib.Core.Path.{_≡_}
-use mathlib.Core.Bool.{false}
+use mathlib.Core.Bool.{Bool, false}
 use Prim.Native.Nat.{ℕ, _+_, _*_, _^_, _≤_, _<_}
 use lib.Dec.{T}
 use lib.IntN.{ℤ}
@@ -26,3 +26,15 @@ pub record Split (n : ℕ) (e k : ℤ) (a c : ℕ) : Type 0 where
   pub same : n * up e * (down k * c) ≡ up k * a * down e
   pub least : 3 * c ≤ 4 * a
   pub most : 2 * a < 3 * c
+
+-- r is the whole number that is nearest to x, of two as near the one further from zero, with the sign of x: x is ±a / c, r is ±n, and n - 1/2 <= a / c < n + 1/2.
+pub record NearestWhole (x r : Float) : Type 0 where
+  pub s : Bool
+  pub a : ℕ
+  pub c : ℕ
+  pub n : ℕ
+  pub some : 0 < c
+  pub of-x : HasValue x s a c
+  pub of-r : HasValue r s n 1
+  pub least : 2 * n * c ≤ 2 * a + c
+  pub most : 2 * a + c < 2 * n * c + 2 * c

@@ -1,16 +1,17 @@
 -- Serves the contracts of this crate's own functions; no public contract reaches it.
--- What the steps of `sqrt` and `ln` ensure.
+-- What the steps of `sqrt`, `ln` and `round` ensure.
 use mathlib.Core.Path.{_≡_}
-use Prim.Native.Nat.{ℕ, _+_, _-_, _*_, _%_, _^_, _≤_, _<_}
+use Prim.Native.Nat.{ℕ, _+_, _-_, _*_, _/_, _%_, _^_, _≤_, _<_}
 use mathlib.Core.Bool.{false}
 use lib.Ieee.{binary64, ofBits, odd}
 
--- The value with the bits b is m * 2 ^ e smallest values.
+-- The value with the bits b is m * 2 ^ e smallest values, e by the exponent's field.
 pub record Unpacked (b m e : ℕ) : Type 0 where
   pub value : ofBits binary64 b ≡ odd 53 false m e 1074
   pub some : 0 < m
   pub short : m < 2 ^ 53
   pub under : e < 2046
+  pub field : e ≡ b / 2 ^ 52 - 1
 
 -- m * 2 ^ e * 2 ^ 1074 is m' * 2 ^ e', with an m' of 53 binary digits.
 pub record Normal (m e m' e' : ℕ) : Type 0 where

@@ -1,4 +1,4 @@
-// Of an f64: the correctly rounded square root, the rules' stand-in for the natural logarithm, plogp and the finite test.
+// Of an f64: the correctly rounded square root, the rules' stand-in for the natural logarithm, plogp, the finite test and, in `rounding`, the nearest whole number.
 ghost use mathlib.Core.Path.{_≡_};
 ghost use Prim.Native.Nat.{_+_, _-_, _*_, _/_, _^_, _≤_, _<_};
 ghost use mathlib.Core.Bool.{false};
@@ -7,6 +7,8 @@ ghost use Rattle.float.specs.Binary64.{one64, whole64, div64, finite};
 ghost use Rattle.float.specs.Root.{root};
 ghost use Rattle.float.specs.Ln.{series, lnOf, ln, plogp};
 ghost use Rattle.float.specs.Steps.{Unpacked, Normal, Even, Rooted, Squared};
+
+pub mod rounding;
 
 // The number m * 2^e.
 struct Scaled {

@@ -1,5 +1,5 @@
 -- Demand 3, of the labels and the mark that an accepted fit gives for its settings and traces. Nothing else that a fit hands back is spoken of: the
--- distinct medians follow from settings and traces, and the groups from the labels of the fixes. Definitions only.
+-- distinct medians, each on the settings' grid, follow from settings and traces, and the groups from the labels of the fixes. Definitions only.
 use mathlib.Core.Path.{_≡_}
 use mathlib.Core.Logic.{_↔_, _≢_, _⊎_}
 use mathlib.Core.Option.{Option, none, some}
@@ -53,11 +53,11 @@ numbered (pos l) = 2 * l
 numbered (negsuc l) = 2 * l + 1
 
 module _ (g : Given) where
-  -- Of each fix the median of the accepted stay that it lies in, or none.
+  -- Of each fix the median, on the settings' grid, of the accepted stay that it lies in, or none.
   abbrev pub medians : List (Option Point)
   medians = allFixMedians (g .dist) (g .config) (g .traces)
 
-  -- The distinct medians.
+  -- The distinct medians, on the grid.
   abbrev pub distinct : List Place
   distinct = places (allMedians (g .dist) (g .config) (g .traces))
 

@@ -2,9 +2,9 @@
 -- of what the caller then holds. Definitions only.
 use mathlib.Core.Path.{_≡_}
 use Prim.Native.Nat.{ℕ}
-use mathlib.Core.Bool.{Bool, true, false}
+use mathlib.Core.Bool.{Bool, true, false, not, _&&_}
 use mathlib.Core.List.{List}
-use lib.Dec.{ltb}
+use lib.Dec.{eqb}
 use lib.IntN.{ℤ}
 use lib.Ieee.{Float}
 use Rattle.distance.specs.Distance.{euclidean}
@@ -46,9 +46,9 @@ pub record Ended (m : Infostop) (old : List ℤ) (o : Outcome) (r : Fit) (labels
   pub model : r .model ≡ modelAfter m o
   pub fixes : labels ≡ labelsAfter old o
 
--- The work slices are free after success, 18 and 19; the other refusals, all of lower number, leave them as they were.
+-- The work slices are free after success, 18 and 19; every other refusal leaves them as they were.
 abbrev pub keepsWork : Outcome → Bool
-keepsWork (refused e) = ltb (numberOf e) 18
+keepsWork (refused e) = not (eqb (numberOf e) 18) && not (eqb (numberOf e) 19)
 keepsWork (fitted f) = false
 
 -- How the work slices end.
@@ -56,6 +56,7 @@ abbrev pub WorkEnds : Outcome → List Float → List ℤ → List Float → Lis
 WorkEnds o floats words floats' words' = keepsWork o ≡ true → (floats' ≡ floats) × (words' ≡ words)
 
 -- Demand 3 of every accepted fit with settings c over the traces ts: of the labels that the caller then holds, and of the mark that was answered.
+-- Its medians, links and chains are those of the medians on the grid of c.
 abbrev pub HoldsDemand3 : Config → List (List Fix) → Fit → List ℤ → Type 0
 HoldsDemand3 c ts r labels = (m : Mark) (rounds : ℕ) → r .answer ≡ Labelled m rounds → Demand3 (record { dist = euclidean; config = c; traces = ts; labels = labels; mark = markOf m })
 

@@ -1,14 +1,15 @@
--- The rules' starred facts, proved together about the definitions by computing them.
+-- The rules' starred facts, and facts of the grid, proved together about the definitions by computing them.
 use mathlib.Core.Path.{_≡_, refl}
 use mathlib.Core.Bool.{true}
 use mathlib.Core.List.{[], _∷_}
 use lib.IntN.{pos}
-use lib.Ieee.{binary64, eq, ne, ofBits, toBits, isNan}
+use lib.Ieee.{binary64, eq, ne, neg, ofBits, toBits, isNan}
 use Rattle.float.specs.Binary64.{whole64, zero64, one64, finite, sameBits}
 use Rattle.float.specs.Root.{root}
 use Rattle.float.specs.Examples as float-examples
 use Rattle.float.specs.Ln.{ln}
 use Rattle.distance.specs.Limit.{within, inLimit}
+use Rattle.distance.specs.Grid.{onGrid}
 use Rattle.stay.specs.Ordered.{median}
 use Rattle.stay.specs.Examples.{median-2-5}
 use Rattle.trace.specs.Trace.{timeOf, fixes, total, traces, fixCount}
@@ -20,12 +21,12 @@ use Rattle.rng.specs.Rng.{seeded, nextU64}
 use Rattle.cluster.specs.Examples.{clusterComputed}
 use Rattle.cluster.specs.Cluster.{noneLabelled}
 use Rattle.settings.specs.Checks.{refuseIf, firstOf, inTurn, eachOf, eachFrom}
-use Rattle.settings.specs.Settings.{unusable, checkTimeBounds, checkConfig}
+use Rattle.settings.specs.Settings.{unusable, negative, outOfBounds, checkTimeBounds, checkResolution, checkConfig}
 use Rattle.checks.specs.Traces.{finitePoint, finiteTime, checkFix, untimed, partlyTimed, above, aboveFirst, inTimeOrder, checkTimes, checkTrace, checkFixSize, checkSize}
 use Rattle.checks.specs.Tracks.{sameLengths, checkLengths, checkCounts, checkWork, checkMark, checkContents, checkTracks}
 use Rattle.cluster.specs.FixLabels.{labelFor, fixLabels}
 use Rattle.infostop.specs.Fit.{unlessNone, givenBy, fromPlaces, fromMedians, fitTraces, unlessRefused, fit}
-use Rattle.infostop.specs.Tries.{at, atTime, twice, fitOf, number, labels, resultOf, placeCount, pairLinks}
+use Rattle.infostop.specs.Tries.{withStep, at, atTime, twice, fitWith, fitOf, number, labels, resultOf, placesOf, placeCount, pairLinks}
 
 -- Of numbers.
 pub record NumberFacts : Type 0 where
@@ -61,6 +62,18 @@ pub record TrackFacts : Type 0 where
   pub they-link : pairLinks (fitOf (twice (at 0 0) ∷ twice (at 10 0) ∷ [])) ≡ true
   pub linked-pair : resultOf (fitOf (twice (at 0 0) ∷ twice (at 10 0) ∷ [])) ≡ labels (pos 0 ∷ pos 0 ∷ pos 0 ∷ pos 0 ∷ [])
 
+-- Of the grid.
+pub record GridFacts : Type 0 where
+  -- With step 1: 2.5 gives 3, -2.5 gives -3, -0.3 gives -0.0, 0.49999999999999994 gives 0.0.
+  pub half : onGrid one64 (ofBits binary64 0x4004_0000_0000_0000) ≡ whole64 3
+  pub minus-half : onGrid one64 (ofBits binary64 0xC004_0000_0000_0000) ≡ neg (whole64 3)
+  pub minus-zero : onGrid one64 (ofBits binary64 0xBFD3_3333_3333_3333) ≡ ofBits binary64 0x8000_0000_0000_0000
+  pub below-half : onGrid one64 (ofBits binary64 0x3FDF_FFFF_FFFF_FFFF) ≡ zero64
+  -- (8,0) twice; (10,0) twice, with step 7: one place, (7,0), with count 2, and all 0. With the grid off: two places.
+  pub together : placesOf (fitWith (withStep (whole64 7)) (twice (at 8 0) ∷ twice (at 10 0) ∷ [])) ≡ record { at = record { x = whole64 7; y = zero64 }; count = 2 } ∷ []
+  pub one-label : resultOf (fitWith (withStep (whole64 7)) (twice (at 8 0) ∷ twice (at 10 0) ∷ [])) ≡ labels (pos 0 ∷ pos 0 ∷ pos 0 ∷ pos 0 ∷ [])
+  pub apart : placeCount (fitOf (twice (at 8 0) ∷ twice (at 10 0) ∷ [])) ≡ 2
+
 pub numbers : NumberFacts
 numbers = record { root-25 = float-examples.root-25; root-2 = float-examples.root-2; ln-1 = float-examples.ln-1; generator = from-state-1; seeds = seeds-42-43; middle = median-2-5 }
 
@@ -68,7 +81,7 @@ numbers = record { root-25 = float-examples.root-25; root-2 = float-examples.roo
 unfoldable pub fitComputed : Unit {0}
 unfolding clusterComputed eq ne toBits isNan finite sameBits within inLimit timeOf fixes total traces fixCount stayMedians fixMedians allMedians
     allFixMedians samePlace sighted sightedAll places placeOf labelFor fixLabels noneLabelled refuseIf firstOf inTurn eachOf eachFrom unusable
-    checkTimeBounds checkConfig finitePoint finiteTime checkFix untimed partlyTimed above aboveFirst inTimeOrder checkTimes checkTrace checkFixSize
+    negative outOfBounds checkTimeBounds checkResolution checkConfig finitePoint finiteTime checkFix untimed partlyTimed above aboveFirst inTimeOrder checkTimes checkTrace checkFixSize
     checkSize sameLengths checkLengths checkCounts checkWork checkMark checkContents checkTracks unlessNone givenBy fromPlaces fromMedians fitTraces
     unlessRefused fit
 fitComputed = tt
@@ -89,3 +102,7 @@ tracks =
       they-link = refl;
       linked-pair = refl;
     }
+
+pub grid : GridFacts
+unfolding fitComputed
+grid = record { half = refl; minus-half = refl; minus-zero = refl; below-half = refl; together = refl; one-label = refl; apart = refl }

@@ -67,7 +67,7 @@ unfoldable pub unlessRefused : Checked → Outcome → Outcome
 unlessRefused Accepted o = o
 unlessRefused (Refused e) o = refused e
 
--- `fit_predict_many` over the caller's slices: 1 to 6; 7 to 17; 18, 19, 18. `labels`, `floats` and `words` are the lengths of the label slice and of the work slices.
+-- `fit_predict_many` over the caller's slices: 1 to 6, 23, 24; 7 to 17; 18, 19, 18. `labels`, `floats` and `words` are the lengths of the label slice and of the work slices.
 unfoldable pub fit : Config → List Float → List Float → List Float → List ℕ → List ℕ → ℕ → ℕ → ℕ → ℕ → Outcome
 unfolding unlessRefused checkConfig checkTracks fitTraces fixes traces
 fit c xs ys times marks lens labels cap floats words =

@@ -15,7 +15,7 @@ use Rattle.infostop.specs.declared.model.Made.{Made}
 abbrev pub freshModel : Config → Infostop
 freshModel c = record { config = c; xs = replicate 512 zero64; ys = replicate 512 zero64; labels = replicate 512 (negsuc 0); count = 0; fitted = false }
 
--- `Infostop::from_config`: 1 to 6. The model of refused settings is not fitted, and a fit refuses it with the same number.
+-- `Infostop::from_config`: 1 to 6, 23, 24. The model of refused settings is not fitted, and a fit refuses it with the same number.
 unfoldable pub fromConfig : Config → Made
 fromConfig c = record { checked = checkConfig c; model = freshModel c }
 

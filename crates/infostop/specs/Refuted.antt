@@ -13,6 +13,7 @@ use Rattle.lists.specs.Lists.{from, upto, anyOf, select, minusOne}
 use Rattle.float.specs.Binary64.{whole64, zero64, one64, infinity64, sameBits}
 use Rattle.float.specs.Root.{root}
 use Rattle.float.specs.Ln.{ln2}
+use Rattle.distance.specs.declared.Point.{Point}
 use Rattle.distance.specs.Distance.{euclidean, Metric}
 use Rattle.trace.specs.Trace.{Fix, fixes, fixCount}
 use Rattle.stay.specs.Stays.{stayMedians, fixMedians, allMedians, allFixMedians}
@@ -29,10 +30,10 @@ use Rattle.infomap.specs.Facts.{linkedPair}
 use Rattle.infomap.specs.Infomap.{RunMark, rest, spent, markOf}
 use Rattle.cluster.specs.Cluster.{nodeNetwork}
 use Rattle.settings.specs.declared.refusal.Refusal.{Refusal}
-use Rattle.settings.specs.declared.refusal.Refusal.the-variants.{Lengths, TimeOrder, NoStop, TooManyPlaces}
-use Rattle.infostop.specs.Demand.{Given, isIn, labelIn, numbered, net, medians, distinct, Outside, LiesIn, Alone, linkedMedians, medianLabel, shownGroups, NeighbourGroup, change, Demand3}
+use Rattle.settings.specs.declared.refusal.Refusal.the-variants.{Lengths, TimeOrder, NoStop, TooManyPlaces, MinSpatialResolution}
+use Rattle.infostop.specs.Demand.{Given, isIn, labelIn, numbered, net, medians, distinct, labelOf, Outside, LiesIn, Alone, linkedMedians, medianLabel, shownGroups, NeighbourGroup, change, Demand3}
 use Rattle.infostop.specs.Fit.{Fitted, refused, fitted}
-use Rattle.infostop.specs.Tries.{settings}
+use Rattle.infostop.specs.Tries.{withStep, settings}
 use Rattle.infostop.specs.declared.model.Infostop.{Infostop}
 use Rattle.infostop.specs.declared.answer.Answer.the-variants.{Labelled, Refused}
 use Rattle.infostop.specs.declared.answer.Fit.{Fit}
@@ -114,28 +115,6 @@ pub unlabelled-too-few : False (Demand3 unlabelledTooFew)
 unfolding fixCount
 unlabelled-too-few d = pos-ne-negsuc 0 0 (d .unlabelled 2 (omega arith) .1 (inl in-no-stay))
 
--- (b) Two far places have one label: (0,0) twice; (100,0) twice.
-abbrev pub farTogether : Given
-farTogether = answered (stand 0 0 ∷ stand 100 0 ∷ []) (pos 0 ∷ pos 0 ∷ pos 0 ∷ pos 0 ∷ []) rest
-
-first-far : getD (medians farTogether) 0 none ≡ some (at 0 0 .at)
-unfolding tracksComputed
-first-far = refl
-
-second-far : getD (medians farTogether) 2 none ≡ some (at 100 0 .at)
-unfolding tracksComputed
-second-far = refl
-
-far-places : (placeOf (distinct farTogether) (at 0 0 .at) ≡ 0) × (placeOf (distinct farTogether) (at 100 0 .at) ≡ 1)
-unfolding tracksComputed
-far-places = (refl, refl)
-
-unlinked : (j : ℕ) → j < length (distinct farTogether) → link euclidean (settings .r2) (distinct farTogether) 0 j ≡ false
-unfolding tracksComputed
-unlinked zero h = refl
-unlinked (suc zero) h = refl
-unlinked (suc (suc j)) h = absurd (omega arith)
-
 begins-inside : {dist : Metric} {r2 : Float} {ps : List Place} {i k : ℕ} → Chain dist r2 ps i k → i < length ps
 begins-inside (alone h) = h
 begins-inside (step h e c) = h
@@ -145,18 +124,68 @@ pub no-chain : {dist : Metric} {r2 : Float} {ps : List Place} {i k : ℕ} → Ch
 no-chain (alone h) n = refl
 no-chain (step {j = j} h l c) n = absurd (true≢false (sym l ∙ n j (begins-inside c)))
 
-pub far-together : False (Demand3 farTogether)
-unfolding fixCount
-far-together d =
-    let w = d .joined 0 2 0 (omega arith) (omega arith) refl refl in
+-- Two standing traces have one label, and their medians p and q are the places 0 and 1, of which the first has no link.
+record Unlinked (g : Given) (p q : Point) : Type 0 where
+  first : getD (medians g) 0 none ≡ some p
+  second : getD (medians g) 2 none ≡ some q
+  place-0 : placeOf (distinct g) p ≡ 0
+  place-1 : placeOf (distinct g) q ≡ 1
+  none-near : Alone g 0
+
+not-joined : (g : Given) (p q : Point) → Unlinked g p q → 2 < fixCount (g .traces) → labelOf g 0 ≡ pos 0 → labelOf g 2 ≡ pos 0 → False (Demand3 g)
+not-joined g p q u n h k d =
+    let w = d .joined 0 2 0 (omega arith) n h k in
     let l = w .2 in
     let l' = w .3 in
-    let m : l .median ≡ at 0 0 .at = (let q = sym first-far ∙ l .lies in cc) in
-    let m' : l' .median ≡ at 100 0 .at = (let q = sym second-far ∙ l' .lies in cc) in
-    let a = sym (l .place) ∙ ap (placeOf (distinct farTogether)) m ∙ far-places .0 in
-    let b = sym (l' .place) ∙ ap (placeOf (distinct farTogether)) m' ∙ far-places .1 in
-    let c = no-chain (w .4) (λ j h. subst (λ (z : ℕ). link euclidean (settings .r2) (distinct farTogether) z j ≡ false) (sym a) (unlinked j h)) in
+    let m : l .median ≡ p = (let e = sym (u .first) ∙ l .lies in cc) in
+    let m' : l' .median ≡ q = (let e = sym (u .second) ∙ l' .lies in cc) in
+    let a = sym (l .place) ∙ ap (placeOf (distinct g)) m ∙ u .place-0 in
+    let b = sym (l' .place) ∙ ap (placeOf (distinct g)) m' ∙ u .place-1 in
+    let c = no-chain (w .4) (λ j h. subst (λ (z : ℕ). link (g .dist) (g .config .r2) (distinct g) z j ≡ false) (sym a) (u .none-near j h)) in
     omega arith
+
+-- (b) Two far places have one label: (0,0) twice; (100,0) twice.
+abbrev pub farTogether : Given
+farTogether = answered (stand 0 0 ∷ stand 100 0 ∷ []) (pos 0 ∷ pos 0 ∷ pos 0 ∷ pos 0 ∷ []) rest
+
+far-alone : Alone farTogether 0
+unfolding tracksComputed
+far-alone zero h = refl
+far-alone (suc zero) h = refl
+far-alone (suc (suc j)) h = absurd (omega arith)
+
+far-unlinked : Unlinked farTogether (at 0 0 .at) (at 100 0 .at)
+unfolding tracksComputed
+far-unlinked = record { first = refl; second = refl; place-0 = refl; place-1 = refl; none-near = far-alone }
+
+pub far-together : False (Demand3 farTogether)
+unfolding fixCount
+far-together = not-joined farTogether (at 0 0 .at) (at 100 0 .at) far-unlinked (omega arith) refl refl
+
+-- (b) Labels by the medians off the grid: (3,0) twice; (11,0) twice, with step 7. They are 8 apart, and 14 on the grid.
+abbrev pub offGrid : Given
+offGrid =
+    record {
+      dist = euclidean;
+      config = withStep (whole64 7);
+      traces = stand 3 0 ∷ stand 11 0 ∷ [];
+      labels = pos 0 ∷ pos 0 ∷ pos 0 ∷ pos 0 ∷ [];
+      mark = rest;
+    }
+
+grid-alone : Alone offGrid 0
+unfolding tracksComputed
+grid-alone zero h = refl
+grid-alone (suc zero) h = refl
+grid-alone (suc (suc j)) h = absurd (omega arith)
+
+grid-unlinked : Unlinked offGrid (at 0 0 .at) (at 14 0 .at)
+unfolding tracksComputed
+grid-unlinked = record { first = refl; second = refl; place-0 = refl; place-1 = refl; none-near = grid-alone }
+
+pub off-grid : False (Demand3 offGrid)
+unfolding fixCount
+off-grid = not-joined offGrid (at 0 0 .at) (at 14 0 .at) grid-unlinked (omega arith) refl refl
 
 -- (c) Spent, where no median is linked.
 abbrev pub spentAlone : Given
@@ -316,3 +345,7 @@ floats-touched w = true≢false (sym apart-they ∙ ap (λ (z : List Float). lt 
 
 pub words-touched : False (WorkEnds (refused Lengths) [] (pos 0 ∷ []) [] (pos 1 ∷ []))
 words-touched w = let q = w refl .1 in let z : _≡_ {A = ℕ} 0 1 = cc in omega arith
+
+-- One that was touched on 23, whose number is above those of 18 and 19.
+pub touched-on-23 : False (WorkEnds (refused MinSpatialResolution) [] (pos 0 ∷ []) [] (pos 1 ∷ []))
+touched-on-23 w = let q = w refl .1 in let z : _≡_ {A = ℕ} 0 1 = cc in omega arith

@@ -8,14 +8,29 @@ use lib.ListN.{length}
 use lib.Ieee.{Float}
 use Rattle.float.specs.Binary64.{whole64, zero64}
 use Rattle.distance.specs.Distance.{euclidean}
+use Rattle.neighbors.specs.Places.{Place}
 use Rattle.neighbors.specs.Links.{link}
 use Rattle.settings.specs.declared.config.Config.{Config}
 use Rattle.settings.specs.Refusals.{numberOf}
 use Rattle.infostop.specs.Fit.{Outcome, refused, fitted, fit}
 
--- 10 10 1 300 86400 2 42
+-- 10 10 1 300 86400 2 42, and a step of the grid.
+abbrev pub withStep : Float → Config
+withStep step =
+    record {
+      r1 = whole64 10;
+      r2 = whole64 10;
+      «label_singleton» = true;
+      «min_staying_time» = whole64 300;
+      «max_time_between» = whole64 86400;
+      «min_size» = 2;
+      «min_spatial_resolution» = step;
+      seed = 42;
+    }
+
+-- The same with the grid off.
 abbrev pub settings : Config
-settings = record { r1 = whole64 10; r2 = whole64 10; «label_singleton» = true; «min_staying_time» = whole64 300; «max_time_between» = whole64 86400; «min_size» = 2; seed = 42 }
+settings = withStep zero64
 
 -- A fix as the list writes it.
 pub record Seen : Type 0 where
@@ -47,11 +62,14 @@ markIn none = 0
 markIn (some t) = 1
 
 -- The fit of tracks, with 64 places and work slices that are long enough.
-abbrev pub fitOf : List (List Seen) → Outcome
-fitOf ts =
+abbrev pub fitWith : Config → List (List Seen) → Outcome
+fitWith c ts =
     let fs = all ts in
-    fit settings (map (λ (f : Seen). whole64 (f .x)) fs) (map (λ (f : Seen). whole64 (f .y)) fs) (map (λ (f : Seen). timeIn (f .time)) fs) (map (λ (f : Seen). markIn (f .time)) fs)
+    fit c (map (λ (f : Seen). whole64 (f .x)) fs) (map (λ (f : Seen). whole64 (f .y)) fs) (map (λ (f : Seen). timeIn (f .time)) fs) (map (λ (f : Seen). markIn (f .time)) fs)
     (map (λ (t : List Seen). length t) ts) (length fs) 64 8192 8192
+
+abbrev pub fitOf : List (List Seen) → Outcome
+fitOf = fitWith settings
 
 -- ---- what is told of an answer
 
@@ -64,9 +82,13 @@ abbrev pub resultOf : Outcome → Result
 resultOf (refused e) = number (numberOf e)
 resultOf (fitted f) = labels (f .labels)
 
+-- Its places, each with the count of its stays.
+abbrev pub placesOf : Outcome → List Place
+placesOf (refused e) = []
+placesOf (fitted f) = f .places
+
 abbrev pub placeCount : Outcome → ℕ
-placeCount (refused e) = 0
-placeCount (fitted f) = length (f .places)
+placeCount o = length (placesOf o)
 
 -- Whether the places 0 and 1 link.
 abbrev pub pairLinks : Outcome → Bool

@@ -34,7 +34,7 @@ fn fresh(c: Config) -> Infostop
 }
 
 impl Infostop {
-    // The model of settings, checked: 1 to 6.
+    // The model of settings, checked: 1 to 6, 23, 24.
     pub fn from_config(c: Config) -> Made
         ensures { λ r. ⌜ r ≡ fromConfig c ⌝ }
     {

@@ -2,17 +2,27 @@
 use mathlib.Core.Path.{_≡_}
 use mathlib.Core.Logic.{_⊎_, inl, inr}
 use mathlib.Core.List.{List, [], _∷_, _++_}
-use Prim.Native.Nat.{ℕ, suc, _<_}
+use Prim.Native.Nat.{ℕ, zero, suc, _<_}
 use native.Mathlib.Omega.{arith}
 use lib.ListN.{length, getD}
 
-abbrev pub All : (ℕ → Type 0) → List ℕ → Type 0
+-- P holds of every item.
+abbrev pub All : {A : Type 0} → (A → Type 0) → List A → Type 0
 All P [] = Unit {0}
-All P (c ∷ cs) = P c × All P cs
+All P (x ∷ xs) = P x × All P xs
 
-pub all-at : (P : ℕ → Type 0) (l : List ℕ) → ((k : ℕ) → k < length l → P (getD l k 0)) → All P l
-all-at P [] f = tt
-all-at P (x ∷ xs) f = (f 0 (omega arith), all-at P xs (λ k h. f (suc k) (omega arith)))
+pub all-at : {A : Type 0} (P : A → Type 0) (l : List A) (d : A) → ((k : ℕ) → k < length l → P (getD l k d)) → All P l
+all-at P [] d f = tt
+all-at P (x ∷ xs) d f = (f 0 (omega arith), all-at P xs d (λ k h. f (suc k) (omega arith)))
+
+pub at-all : {A : Type 0} (P : A → Type 0) (l : List A) (d : A) → All P l → (k : ℕ) → k < length l → P (getD l k d)
+at-all P [] d a k h = absurd (omega arith)
+at-all P (x ∷ xs) d a zero h = a .0
+at-all P (x ∷ xs) d a (suc k) h = at-all P xs d (a .1) k (omega arith)
+
+pub all-append : {A : Type 0} (P : A → Type 0) (xs ys : List A) → All P xs → All P ys → All P (xs ++ ys)
+all-append P [] ys a b = b
+all-append P (x ∷ xs) ys a b = (a .0, all-append P xs ys (a .1) b)
 
 -- x is one of the items.
 abbrev pub Among : {A : Type 0} → List A → A → Type 0

@@ -1,4 +1,4 @@
--- Every place is the place of a median that was sighted.
+-- Every place is the place of a median that was sighted, and what holds of the medians holds of the places.
 use mathlib.Core.Path.{_≡_, refl, ap, _∙_}
 use mathlib.Core.Logic.{_⊎_, inl, inr}
 use mathlib.Core.Bool.{Bool, true, false, cond}
@@ -10,7 +10,7 @@ use lib.ListN.{length}
 use Rattle.distance.specs.declared.Point.{Point}
 use Rattle.neighbors.specs.Places.{Place, samePlace, placeOf, sighted, sightedAll, places}
 use Rattle.neighbors.proofs.SameBits.{same-self}
-use Rattle.lists.proofs.Items.{Among, among-left, among-right}
+use Rattle.lists.proofs.Items.{All, Among, among-left, among-right}
 
 -- A median that has a place keeps its number.
 kept-number : (ps : List Place) (q m : Point) → placeOf ps m < length ps → placeOf (sighted ps q) m ≡ placeOf ps m
@@ -67,3 +67,26 @@ sources-all ps seen (m ∷ ms) f = rw (← append-assoc seen (m ∷ []) ms) (sou
 pub sources : (ms : List Point) (i : ℕ) → i < length (places ms) → SourceOf (places ms) ms i
 unfolding places
 sources ms i h = sources-all [] [] ms (λ j k. absurd (omega arith)) i h
+
+-- ---- what holds of every median holds of every place
+module _ (P : Point → Type 0) where
+  abbrev pub AtPlace : Place → Type 0
+  AtPlace p = P (p .at)
+
+  sighted-all : (ps : List Place) (q : Point) → All AtPlace ps → P q → All AtPlace (sighted ps q)
+  unfolding sighted
+  sighted-all [] q a h = (h, tt)
+  sighted-all (p ∷ ps) q a h = go (samePlace (p .at) q) (sighted-all ps q (a .1) h)
+    where
+      go : (b : Bool) → All AtPlace (sighted ps q) → All AtPlace (cond b (record { at = p .at; count = suc (p .count) } ∷ ps) (p ∷ sighted ps q))
+      go true r = a
+      go false r = (a .0, r)
+
+  all-sighted : (ps : List Place) (ms : List Point) → All AtPlace ps → All P ms → All AtPlace (sightedAll ps ms)
+  unfolding sightedAll
+  all-sighted ps [] a b = a
+  all-sighted ps (m ∷ ms) a b = all-sighted (sighted ps m) ms (sighted-all ps m a (b .0)) (b .1)
+
+  pub places-all : (ms : List Point) → All P ms → All AtPlace (places ms)
+  unfolding places
+  places-all ms b = all-sighted [] ms tt b

@@ -39,7 +39,7 @@ use Rattle.records.proofs.Steps.{length-put, length-mark, steps-length}
 use Rattle.records.proofs.Columns.{inRow, columns-taken, marks-taken, columns-stay, marks-stay, columns-held, marks-held, xs-held, ys-held, times-held}
 use Rattle.records.proofs.Judged.{fixes-are, checks-told}
 use Rattle.records.proofs.Packing.{unpacked-all}
-use Rattle.records.proofs.Below.{low, low-records}
+use Rattle.records.proofs.Early.{early, early-records}
 
 -- ---- the outcome by the checks
 
@@ -64,10 +64,10 @@ module _ (c : Config) (fs : List FixRecord) (lens : List ℕ) (labels cap column
   unfolding fitRecords fit checkRecords
   outcome-refused e h = two-checks _ _ _ e h
 
-  pub keeps-below : (d : Checked) → verdict ≡ d → keepsWork outcome ≡ isRefused d
+  pub keeps-early : (d : Checked) → verdict ≡ d → keepsWork outcome ≡ isRefused d
   unfolding fitRecords checkRecords
-  keeps-below (Refused e) h = ap keepsWork (outcome-refused e h) ∙ ap low (sym h) ∙ low-records c fs lens labels cap columns marks floats words
-  keeps-below Accepted h =
+  keeps-early (Refused e) h = ap keepsWork (outcome-refused e h) ∙ ap early (sym h) ∙ early-records c fs lens labels cap columns marks floats words
+  keeps-early Accepted h =
       let both = first-both _ _ h in
       ap keepsWork (both-accepted c (xsOf fs) (ysOf fs) (timesOf fs) (marksOf fs) lens labels cap (workFloats (length fs) columns marks floats) words
       (both .0) (both .1))
@@ -239,7 +239,7 @@ module _ (m : Infostop) (fs : List FixRecord) (lens : List ℕ) (old : List ℤ)
   marks-end (Refused e) h = ap (λ (k : ℕ). allPut (markAt k) fs marks) (count-is (Refused e) h) ∙ marks-stay fs marks (length fs)
 
   keeps : keepsWork o₁ ≡ isRefused d₁
-  keeps = keeps-below (m .config) fs lens (length old) cap (length columns) (length marks) (length floats) (length words) d₁ refl
+  keeps = keeps-early (m .config) fs lens (length old) cap (length columns) (length marks) (length floats) (length words) d₁ refl
 
   pub columns-are : columns₁ ≡ taken o₁ fs columns
   unfolding taken

@@ -5,5 +5,5 @@ pub mod OpenTrace
 pub mod Machine
 pub mod Judged
 pub mod Packing
-pub mod Below
+pub mod Early
 pub mod Fits

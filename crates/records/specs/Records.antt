@@ -49,7 +49,7 @@ unfolding workFloats fit
 fitRecords c fs lens labels cap columns marks floats words =
     fit c (xsOf fs) (ysOf fs) (timesOf fs) (marksOf fs) lens labels cap (workFloats (length fs) columns marks floats) words
 
--- How the slice of columns ends, o being the outcome: a refusal below 18 leaves it as it was; else x, y and time of each record, column by column,
+-- How the slice of columns ends, o being the outcome: a refusal other than 18 and 19 leaves it as it was; else x, y and time of each record, column by column,
 -- stand in front.
 unfoldable pub taken : Outcome → List FixRecord → List Float → List Float
 taken o fs columns = cond (keepsWork o) columns (overlay (xsOf fs ++ (ysOf fs ++ timesOf fs)) columns)

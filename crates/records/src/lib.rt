@@ -140,7 +140,7 @@ fn fit_taken(
 }
 
 // The fit of the records. Beside the slices of `fit_predict_many` it is lent `columns`, for 3 × records numbers, and `marks`, for one of each record.
-// One of the two that is shorter is 10. A refusal below 18 leaves all as it was.
+// One of the two that is shorter is 10. A refusal other than 18 and 19 leaves all as it was.
 pub fn fit_records(
     model: Infostop,
     fixes: &[FixRecord],

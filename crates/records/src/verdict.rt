@@ -1,4 +1,4 @@
-// The verdict on records, before anything is written: 1 to 10 by the lengths of the slices, 11 to 17 by what the machine says.
+// The verdict on records, before anything is written: the settings and 7 to 10 by the lengths of the slices, 11 to 17 by what the machine says.
 use crate::judge::Judge;
 use crate::packed::Packed;
 use infostop::model::Infostop;
@@ -7,7 +7,7 @@ ghost use mathlib.Core.Path.{_≡_};
 ghost use Rattle.records.specs.Records.{workFloats};
 ghost use Rattle.records.specs.StepsJudge.{unpacked, checksFrom, verdictBy};
 
-// The first refusal of 1 to 17, and how many records are to be taken apart, none where there is one.
+// The first refusal of the settings and of 7 to 17, and how many records are to be taken apart, none where there is one.
 pub struct Verdict {
     pub checked: Checked,
     pub fixes: usize,
@@ -26,7 +26,7 @@ fn work_floats(n: usize, columns: usize, marks: usize, floats: usize) -> usize
     floats
 }
 
-// 1 to 10 of n records and the lent slices, by their lengths; then 11 to 17, by what the machine says of the records.
+// The settings; 7 to 10 of n records and the lent slices, by their lengths; then 11 to 17, by what the machine says of the records.
 fn checks(
     model: Infostop,
     s: Judge,

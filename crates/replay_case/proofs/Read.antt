@@ -41,11 +41,11 @@ module _ {A : Type 0} (f : ℕ → A) where
   unfolding filled
   filled-on n l s v e h = ap (λ (r : List A). set r n v) e ∙ ap (set (filled f n l) n) h ∙ sym (ap (λ (k : ℕ). filled f k l) (add-one n))
 
-pub settings-are : (t : List ℕ) (i : ℕ) (a b s g : Float) (l m d : ℕ) → a ≡ floatAt t i 0 → b ≡ floatAt t i 1 → l ≡ numberAt t i 2 → s ≡ floatAt t i 3 → g ≡ floatAt t i 4
-    → m ≡ numberAt t i 5 → d ≡ numberAt t i 6
-    → _≡_ {A = Config} (record { r1 = a; r2 = b; «label_singleton» = eqb l 1; «min_staying_time» = s; «max_time_between» = g; «min_size» = m; seed = d }) (settingsAt t i)
+pub settings-are : (t : List ℕ) (i : ℕ) (a b s g h : Float) (l m d : ℕ) → a ≡ floatAt t i 0 → b ≡ floatAt t i 1 → l ≡ numberAt t i 2 → s ≡ floatAt t i 3 → g ≡ floatAt t i 4
+    → m ≡ numberAt t i 5 → h ≡ floatAt t i 6 → d ≡ numberAt t i 7
+    → _≡_ {A = Config} (record { r1 = a; r2 = b; «label_singleton» = eqb l 1; «min_staying_time» = s; «max_time_between» = g; «min_size» = m; «min_spatial_resolution» = h; seed = d }) (settingsAt t i)
 unfolding settingsAt
-settings-are t i a b s g l m d ea eb el es eg em ed = rw (ea, eb, el, es, eg, em, ed)
+settings-are t i a b s g h l m d ea eb el es eg em eh ed = rw (ea, eb, el, es, eg, em, eh, ed)
 
 module _ (l : List ℕ) (k c : ℕ) where
   -- One length more.

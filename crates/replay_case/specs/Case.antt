@@ -12,7 +12,7 @@ use Rattle.replay.specs.Numbers.{skip, numberAt}
 unfoldable pub floatAt : List ℕ → ℕ → ℕ → Float
 floatAt t i n = ofBits binary64 (numberAt t i n)
 
--- r1 r2 single stay gap size seed.
+-- r1 r2 single stay gap size resolution seed.
 unfoldable pub settingsAt : List ℕ → ℕ → Config
 unfolding floatAt
 settingsAt t i = record {
@@ -22,7 +22,8 @@ settingsAt t i = record {
   «min_staying_time» = floatAt t i 3;
   «max_time_between» = floatAt t i 4;
   «min_size» = numberAt t i 5;
-  seed = numberAt t i 6;
+  «min_spatial_resolution» = floatAt t i 6;
+  seed = numberAt t i 7;
 }
 
 -- A number in 32 bits, and in 8: the largest there is where it is larger.

@@ -15,9 +15,9 @@ pub struct Settings {
     pub next: usize,
 }
 
-// Reads `r1 r2 single stay gap size seed`, floats as their bits.
+// Reads `r1 r2 single stay gap size resolution seed`, floats as their bits.
 pub fn read_settings(text: &[u8], at: usize) -> Settings
-    ensures { λ r. ⌜ (r .config ≡ settingsAt (now (text .entry)) at) × (r .next ≡ skip (now (text .entry)) at 7) ⌝ }
+    ensures { λ r. ⌜ (r .config ≡ settingsAt (now (text .entry)) at) × (r .next ≡ skip (now (text .entry)) at 8) ⌝ }
 {
     let r1 = replay::number(text, at);
     let r2 = replay::number(text, r1.next);
@@ -25,7 +25,8 @@ pub fn read_settings(text: &[u8], at: usize) -> Settings
     let stay = replay::number(text, single.next);
     let gap = replay::number(text, stay.next);
     let size = replay::number(text, gap.next);
-    let seed = replay::number(text, size.next);
+    let resolution = replay::number(text, size.next);
+    let seed = replay::number(text, resolution.next);
     Settings {
         config: Config {
             r1: replay::float_of_bits(r1.value),
@@ -34,6 +35,7 @@ pub fn read_settings(text: &[u8], at: usize) -> Settings
             min_staying_time: replay::float_of_bits(stay.value),
             max_time_between: replay::float_of_bits(gap.value),
             min_size: size.value as usize,
+            min_spatial_resolution: replay::float_of_bits(resolution.value),
             seed: seed.value,
         },
         next: seed.next,

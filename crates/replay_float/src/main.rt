@@ -1,4 +1,4 @@
-// Replays a list of cases `op x`, x as its bits: op 0 is sqrt, 1 ln and 2 plogp. Prints the bits of each answer.
+// Replays a list of cases `op x`, x as its bits: op 0 is sqrt, 1 ln, 2 plogp and 3 round. Prints the bits of each answer.
 use libc::STDIN_FILENO;
 
 fn answer(op: u64, x: f64) -> f64 {
@@ -6,9 +6,12 @@ fn answer(op: u64, x: f64) -> f64 {
         return float::sqrt(x);
     }
     if op == 1 {
-        float::ln(x)
-    } else {
+        return float::ln(x);
+    }
+    if op == 2 {
         float::plogp(x)
+    } else {
+        float::rounding::round(x)
     }
 }
 

@@ -26,12 +26,13 @@ sameWords [] (y ∷ b) = false
 sameWords (x ∷ a) [] = false
 sameWords (x ∷ a) (y ∷ b) = let r = sameWords a b in sameWord x y && r
 
--- Settings: radii and times, whether singles are labelled, size and seed.
+-- Settings: radii and times, resolution, whether singles are labelled, size and seed.
 unfoldable pub sameConfig : Config → Config → Bool
 sameConfig a b =
     ((sameBits (a .r1) (b .r1) && sameBits (a .r2) (b .r2))
     && (sameBits (a .«min_staying_time») (b .«min_staying_time») && sameBits (a .«max_time_between») (b .«max_time_between»)))
-    && (sameFlag (a .«label_singleton») (b .«label_singleton») && (eqb (a .«min_size») (b .«min_size») && eqb (a .seed) (b .seed)))
+    && ((sameBits (a .«min_spatial_resolution») (b .«min_spatial_resolution») && sameFlag (a .«label_singleton») (b .«label_singleton»))
+    && (eqb (a .«min_size») (b .«min_size») && eqb (a .seed) (b .seed)))
 
 unfoldable pub sameModel : Infostop → Infostop → Bool
 unfolding sameConfig sameFloats sameWords

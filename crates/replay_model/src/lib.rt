@@ -104,9 +104,13 @@ fn same_config(a: Config, b: Config) -> bool
     let radii = both(same_float(a.r1, b.r1), same_float(a.r2, b.r2));
     let stay = same_float(a.min_staying_time, b.min_staying_time);
     let gap = same_float(a.max_time_between, b.max_time_between);
+    let resolution = same_float(a.min_spatial_resolution, b.min_spatial_resolution);
     let single = same_flag(a.label_singleton, b.label_singleton);
     let numbers = both(a.min_size == b.min_size, a.seed == b.seed);
-    both(both(radii, both(stay, gap)), both(single, numbers))
+    both(
+        both(radii, both(stay, gap)),
+        both(both(resolution, single), numbers),
+    )
 }
 
 // Whether two models agree, floats bit for bit.

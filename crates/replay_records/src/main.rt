@@ -1,4 +1,4 @@
-// Runs a list of fits over records, for the rules' refusals and for what they leave as it was. A case: settings `r1 r2 single stay gap size seed`;
+// Runs a list of fits over records, for the rules' refusals and for what they leave as it was. A case: settings `r1 r2 single stay gap size resolution seed`;
 // `places`; the lengths of the slices lent, `labels columns marks floats words`; the number of traces and their lengths; four records, `x y mark time`
 // each; floats as their bits. Before the fit the labels are 7, the columns -0.0, the marks 9, the floats 0.5 and the words 9, and the model comes from a
 // fit of two places with the same settings. Prints the number and trace of the refusal, or `0 0`; then 1 where it is as it was, else 0, of the labels,

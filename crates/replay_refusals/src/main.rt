@@ -1,4 +1,4 @@
-// Runs a list of fits for the rules' refusals and for what they leave as it was. A case: settings `r1 r2 single stay gap size seed`; the
+// Runs a list of fits for the rules' refusals and for what they leave as it was. A case: settings `r1 r2 single stay gap size resolution seed`; the
 // lengths of the slices lent, `xs ys times marks labels`; `places`; the lengths of the work slices, `floats words`; the number of traces and
 // their lengths; the number of fixes that follow, and for each `x y mark time`, floats as their bits. What no fix fills is 0. The model that
 // a case is run with comes from a fit of two places with the same settings. Prints, for each case, the number and trace of the refusal, or
@@ -46,11 +46,15 @@ fn read_lengths(text: &[u8], at: usize) -> Lengths {
     }
 }
 
+fn is_18_or_19(n: u32) -> bool {
+    if n == 18 { true } else { n == 19 }
+}
+
 // Work slices are free after success, 18 and 19.
 fn is_work_free(a: Answer) -> bool {
     match a {
         Answer::Labelled(_, _) => true,
-        Answer::Refused(e) => 18 <= settings::refusal::number(e),
+        Answer::Refused(e) => is_18_or_19(settings::refusal::number(e)),
     }
 }
 

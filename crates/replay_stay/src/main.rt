@@ -1,5 +1,5 @@
-// Replays a list of cases `r1 min_size min_staying_time max_time_between n` and n times `x y mark time`, floats as their bits. Prints, for each
-// case, the stay number of each fix, the number of stays, and the bits of each stay's median.
+// Replays a list of cases `r1 min_size min_staying_time max_time_between resolution n` and n times `x y mark time`, floats as their bits. Prints,
+// for each case, the stay number of each fix, the number of stays, and the bits of each stay's median on the grid.
 use libc::STDIN_FILENO;
 use settings::config::Config;
 ghost use mathlib.Core.Path.{_≡_};
@@ -63,7 +63,8 @@ fn read_head(text: &[u8], at: usize) -> Head {
     let size = replay::number(text, r1.next);
     let stay = replay::number(text, size.next);
     let gap = replay::number(text, stay.next);
-    let fixes = replay::number(text, gap.next);
+    let resolution = replay::number(text, gap.next);
+    let fixes = replay::number(text, resolution.next);
     Head {
         s: Config {
             r1: replay::float_of_bits(r1.value),
@@ -72,6 +73,7 @@ fn read_head(text: &[u8], at: usize) -> Head {
             min_staying_time: replay::float_of_bits(stay.value),
             max_time_between: replay::float_of_bits(gap.value),
             min_size: size.value as usize,
+            min_spatial_resolution: replay::float_of_bits(resolution.value),
             seed: 42,
         },
         fixes: fixes.value as usize,

@@ -11,13 +11,13 @@ use Rattle.replay_visits.specs.declared.read.Sizes.{Sizes}
 -- Settings, and the numbers behind them in their order, from the place i of the text t on.
 pub record HeadRead (t : List ℕ) (i : ℕ) (h : Head) : Type 0 where
   pub config : h .config ≡ settingsAt t i
-  pub trace : h .sizes .trace ≡ numberAt t i 7
-  pub room : h .sizes .room ≡ numberAt t i 8
-  pub short : h .sizes .short ≡ numberAt t i 9
-  pub traces : h .traces ≡ numberAt t i 10
-  pub fitted : h .sizes .fitted ≡ numberAt t i 11
-  pub until : h .sizes .until ≡ numberAt t i 12
-  pub place : h .next ≡ skip t i 13
+  pub trace : h .sizes .trace ≡ numberAt t i 8
+  pub room : h .sizes .room ≡ numberAt t i 9
+  pub short : h .sizes .short ≡ numberAt t i 10
+  pub traces : h .traces ≡ numberAt t i 11
+  pub fitted : h .sizes .fitted ≡ numberAt t i 12
+  pub until : h .sizes .until ≡ numberAt t i 13
+  pub place : h .next ≡ skip t i 14
 
 -- The lengths of four columns: one length, and there is room for it.
 pub record Columns (xs ys times marks : ℕ) : Type 0 where

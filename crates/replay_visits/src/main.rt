@@ -1,4 +1,4 @@
-// Runs a list of reports whose answers are written by hand from docs/RULES.md. A case: settings `r1 r2 single stay gap size seed`; the trace asked for; the
+// Runs a list of reports whose answers are written by hand from docs/RULES.md. A case: settings `r1 r2 single stay gap size resolution seed`; the trace asked for; the
 // length of the output slices, at most 8; which slice is lent one item short (0 none, 1 to 4 xs, ys, times and marks, 5 all four, 6 and 7 the work of
 // floats and of words, 8 the second output slice, 9 the labels of the trace view); the number of traces, how many of them are fitted, and how many fixes
 // these have; the lengths of the traces; for each fix `x y mark time`, floats as their bits. There is room for 257 traces and 257 fixes. A new model is

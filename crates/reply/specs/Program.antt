@@ -20,7 +20,7 @@ unfoldable pub outcomeText : List ℕ → Outcome → List ℕ
 outcomeText lens (refused e) = refusalText e
 outcomeText lens (fitted f) = labelsText lens (f .labels)
 
--- It takes 768 fixes and 64 places: the Bool tells whether there are more fixes, which is 9 after 1 to 6. The work slices are those of 768 fixes.
+-- It takes 768 fixes and 64 places: the Bool tells whether there are more fixes, which is 9 after the refusals of settings. The work slices are those of 768 fixes.
 unfoldable pub fixesText : Bool → Config → List FixLine → List ℕ
 fixesText true c ls = outcomeText (lengthsOf ls) (unlessRefused (checkConfig c) (refused Counts))
 fixesText false c ls = outcomeText (lengthsOf ls) (fit c (xsOf ls) (ysOf ls) (timesOf ls) (marksOf ls) (lengthsOf ls) (length ls) 64 7168 3584)

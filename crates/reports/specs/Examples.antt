@@ -22,9 +22,9 @@ use Rattle.reports.specs.Labels.{labelEnd, labelsIn, isLabel}
 use Rattle.reports.specs.LabelMedians.{withLabel, labelMedian, labelMedians}
 use Rattle.reports.specs.Visits.{visitedLabels, visitsTo, traceVisits}
 
--- A fitted model with the one place (x, 0), of label 0, and the settings 10 10 1 300 86400 2 42.
-model : Float → Infostop
-model x =
+-- A fitted model with the one place (x, 0), of label 0, and the settings 10 10 1 300 86400 2 42 with a step of the grid.
+modelOn : Float → Float → Infostop
+modelOn step x =
     record {
       config =
           record {
@@ -34,6 +34,7 @@ model x =
             «min_staying_time» = whole64 300;
             «max_time_between» = whole64 86400;
             «min_size» = 2;
+            «min_spatial_resolution» = step;
             seed = 42;
           };
       xs = x ∷ [];
@@ -42,6 +43,9 @@ model x =
       count = 1;
       fitted = true;
     }
+
+model : Float → Infostop
+model = modelOn zero64
 
 -- Two stays at (x, 0), one after the other: the second begins more than 86400 later.
 stays : Float → List Fix
@@ -52,7 +56,7 @@ stays x = fix 0 ∷ fix 300 ∷ fix 90000 ∷ fix 90300 ∷ []
 
 -- What is computed below: to unfold this is to unfold all that it names.
 unfoldable computed : Unit {0}
-unfolding model stays add mul ofInt ofBits toBits sameBits from upto euclidean stayMedians samePlace placesIn placeOf labelFor stayLabels ordered median
+unfolding modelOn model stays add mul ofInt ofBits toBits sameBits from upto euclidean stayMedians samePlace placesIn placeOf labelFor stayLabels ordered median
     labelEnd labelsIn isLabel withLabel labelMedian labelMedians visitedLabels visitsTo traceVisits
     refuseIf firstOf inTurn total sameLengths checkLengths checkView traceStart
 computed = tt
@@ -66,6 +70,11 @@ two-visits = refl
 no-visit : traceVisits (model zero64) (stays (ofBits binary64 0x8000_0000_0000_0000)) ≡ 0 ∷ []
 unfolding computed
 no-visit = refl
+
+-- With step 1 stays at 4.75 are at the place 5.
+on-grid : traceVisits (modelOn (whole64 1) (whole64 5)) (stays (ofBits binary64 0x4013_0000_0000_0000)) ≡ 2 ∷ []
+unfolding computed
+on-grid = refl
 
 -- Places at 0, 7, 10 and 20 with the labels 0, -1, 0 and 0, and one at 5 with the label 1: each place counts once.
 medians-by-places :

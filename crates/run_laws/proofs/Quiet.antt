@@ -43,7 +43,7 @@ module _ (net : Network) (P : MapState → Type 0) (f : Test) (by : MovesKeep ne
 
 -- An order of visiting holds nodes only.
 order-nodes : (r n : ℕ) → All (λ u. u < n) (order r n .list)
-order-nodes r n = all-at (λ u. u < n) (order r n .list) (below-at n (order r n .list) (order-below r n))
+order-nodes r n = all-at (λ u. u < n) (order r n .list) 0 (below-at n (order r n .list) (order-below r n))
 
 module _ (net : Network) (P : MapState → Type 0) (by-scan : MovesKeep net P scan) (by-isolate : MovesKeep net P isolate) where
   -- A round keeps what its moves keep.

@@ -1,7 +1,7 @@
 -- The numbers of docs/RULES.md, "When no labels are given", for each refusal, and the trace that it carries. Definitions only.
 use Prim.Native.Nat.{ℕ}
 use Rattle.settings.specs.declared.refusal.Refusal.{Refusal}
-use Rattle.settings.specs.declared.refusal.Refusal.the-variants.{R1, R2, MinStayingTime, MaxTimeBetween, TimeBounds, MinSize, NoTrace, Lengths, Counts, Work, EmptyTrace, Coordinate, Timestamp, PartlyTimed, TimeOrder, CoordinateSize, TimeMark, NoStop, TooManyPlaces, NotFitted, Output, Text}
+use Rattle.settings.specs.declared.refusal.Refusal.the-variants.{R1, R2, MinStayingTime, MaxTimeBetween, TimeBounds, MinSize, NoTrace, Lengths, Counts, Work, EmptyTrace, Coordinate, Timestamp, PartlyTimed, TimeOrder, CoordinateSize, TimeMark, NoStop, TooManyPlaces, NotFitted, Output, Text, MinSpatialResolution, ResolutionBounds}
 
 -- The first column of the table: in its words,
 abbrev pub numberOf : Refusal → ℕ
@@ -27,6 +27,8 @@ numberOf TooManyPlaces = 19  -- more distinct medians than `places`
 numberOf NotFitted = 20  -- model not fitted
 numberOf Output = 21  -- output slice short, or a trace number not in the list
 numberOf Text = 22  -- text not in the program's form
+numberOf MinSpatialResolution = 23  -- `min_spatial_resolution` not finite or below zero
+numberOf ResolutionBounds = 24  -- `min_spatial_resolution` between zero and 2^-10, both excluded, or above 10^6
 
 -- The trace number: 0 unless 11 to 16.
 abbrev pub traceOf : Refusal → ℕ
@@ -52,3 +54,5 @@ traceOf TooManyPlaces = 0
 traceOf NotFitted = 0
 traceOf Output = 0
 traceOf Text = 0
+traceOf MinSpatialResolution = 0
+traceOf ResolutionBounds = 0

@@ -2,7 +2,7 @@
 use crate::refusal::Checked;
 use crate::refusal::Refusal;
 ghost use mathlib.Core.Path.{_≡_};
-ghost use Rattle.settings.specs.Settings.{unusable, checkConfig, checkTimeBounds};
+ghost use Rattle.settings.specs.Settings.{unusable, negative, outOfBounds, checkConfig, checkTimeBounds, checkResolution};
 
 pub struct Config {
     pub r1: f64,
@@ -11,6 +11,7 @@ pub struct Config {
     pub min_staying_time: f64,
     pub max_time_between: f64,
     pub min_size: usize,
+    pub min_spatial_resolution: f64,
     pub seed: u64,
 }
 
@@ -43,7 +44,43 @@ fn check_time_bounds(c: Config) -> Checked
     Checked::Accepted
 }
 
-// 1 to 6: the check of the settings.
+// Whether x is not finite or below zero.
+fn negative(x: f64) -> bool
+    ensures { λ r. ⌜ r ≡ negative x ⌝ }
+{
+    if !float::is_finite(x) {
+        return true;
+    }
+    x < 0.0
+}
+
+// Whether x lies between zero and 2^-10, or above 10^6.
+fn out_of_bounds(x: f64) -> bool
+    ensures { λ r. ⌜ r ≡ outOfBounds x ⌝ }
+{
+    if 1000000.0 < x {
+        return true;
+    }
+    if x < 0.0009765625 {
+        return 0.0 < x;
+    }
+    false
+}
+
+// 23 and 24.
+fn check_resolution(res: f64) -> Checked
+    ensures { λ r. ⌜ r ≡ checkResolution res ⌝ }
+{
+    if negative(res) {
+        return Checked::Refused(Refusal::MinSpatialResolution);
+    }
+    if out_of_bounds(res) {
+        return Checked::Refused(Refusal::ResolutionBounds);
+    }
+    Checked::Accepted
+}
+
+// 1 to 6, 23, 24: the check of the settings.
 pub fn check_config(c: Config) -> Checked
     ensures { λ r. ⌜ r ≡ checkConfig c ⌝ }
 {
@@ -53,5 +90,9 @@ pub fn check_config(c: Config) -> Checked
     if unusable(c.r2) {
         return Checked::Refused(Refusal::R2);
     }
-    check_time_bounds(c)
+    let times = check_time_bounds(c);
+    if crate::refusal::is_refused(times) {
+        return times;
+    }
+    check_resolution(c.min_spatial_resolution)
 }

@@ -27,6 +27,8 @@ pub enum Refusal {
     NotFitted,
     Output,
     Text,
+    MinSpatialResolution,
+    ResolutionBounds,
 }
 
 // What a check answers.
@@ -62,6 +64,8 @@ pub fn number(e: Refusal) -> u32
         Refusal::NotFitted => 20,
         Refusal::Output => 21,
         Refusal::Text => 22,
+        Refusal::MinSpatialResolution => 23,
+        Refusal::ResolutionBounds => 24,
     }
 }
 

@@ -10,7 +10,7 @@ use lib.ListN.{length, getD, replicate, length-append}
 use Rattle.distance.specs.declared.Point.{Point}
 use Rattle.settings.specs.declared.config.Config.{Config}
 use Rattle.trace.specs.Trace.{Fix, timed, fixCount}
-use Rattle.stay.specs.Stays.{isStay, middle, groups, mediansOf, fixMediansOf, stayMedians, fixMedians, allMedians, allFixMedians}
+use Rattle.stay.specs.Stays.{isStay, stayMedian, groups, mediansOf, fixMediansOf, stayMedians, fixMedians, allMedians, allFixMedians}
 use Rattle.stay.proofs.Groups.{medians-few}
 use Rattle.stay.proofs.Lies.{lies-one-each}
 use Rattle.distance.specs.Distance.{Metric}
@@ -48,13 +48,13 @@ module _ (dist : Metric) (s : Config) where
   unfolding fixMediansOf mediansOf
   in-groups t [] m h = absurd h
   in-groups t (g ∷ gs) m h =
-      go (some-append (replicate (length g) (cond (isStay s t g) (some (middle g)) none)) (fixMediansOf s t gs) m h) (isStay s t g)
-      (some-replicate (length g) (cond (isStay s t g) (some (middle g)) none) m) (in-groups t gs m)
+      go (some-append (replicate (length g) (cond (isStay s t g) (some (stayMedian s g)) none)) (fixMediansOf s t gs) m h) (isStay s t g)
+      (some-replicate (length g) (cond (isStay s t g) (some (stayMedian s g)) none) m) (in-groups t gs m)
     where
-      go : SomeAt (replicate (length g) (cond (isStay s t g) (some (middle g)) none)) m ⊎ SomeAt (fixMediansOf s t gs) m → (b : Bool)
-          → (SomeAt (replicate (length g) (cond (isStay s t g) (some (middle g)) none)) m → cond b (some (middle g)) none ≡ some m) → (SomeAt (fixMediansOf s t gs) m → Among (mediansOf s t gs) m)
-          → Among (cond b (middle g ∷ mediansOf s t gs) (mediansOf s t gs)) m
-      go (inl p) true f ih = inl (sym (some-injective (middle g) m (f p)))
+      go : SomeAt (replicate (length g) (cond (isStay s t g) (some (stayMedian s g)) none)) m ⊎ SomeAt (fixMediansOf s t gs) m → (b : Bool)
+          → (SomeAt (replicate (length g) (cond (isStay s t g) (some (stayMedian s g)) none)) m → cond b (some (stayMedian s g)) none ≡ some m) → (SomeAt (fixMediansOf s t gs) m → Among (mediansOf s t gs) m)
+          → Among (cond b (stayMedian s g ∷ mediansOf s t gs) (mediansOf s t gs)) m
+      go (inl p) true f ih = inl (sym (some-injective (stayMedian s g) m (f p)))
       go (inl p) false f ih = absurd (let e = f p in let z : _≡_ {A = ℕ} 0 1 = cc in omega arith)
       go (inr p) true f ih = inr (ih p)
       go (inr p) false f ih = ih p

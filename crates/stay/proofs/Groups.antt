@@ -13,7 +13,7 @@ use Rattle.lists.proofs.Maps.{map-append}
 use Rattle.distance.specs.declared.Point.{Point}
 use Rattle.settings.specs.declared.config.Config.{Config}
 use Rattle.trace.specs.Trace.{Fix, timed}
-use Rattle.stay.specs.Stays.{middle, joins, groupsFrom, groups, isStay, mediansOf, stayMedians, firstTime, lastTime}
+use Rattle.stay.specs.Stays.{stayMedian, joins, groupsFrom, groups, isStay, mediansOf, stayMedians, firstTime, lastTime}
 
 -- the groups' fixes, one after the other
 abbrev pub concat : List (List Fix) → List Fix
@@ -72,7 +72,7 @@ module _ (dist : Point → Point → Float) (s : Config) where
   medians-of t [] = omega arith
   medians-of t (g ∷ gs) = go (isStay s t g) (medians-of t gs)
     where
-      go : (b : Bool) → length (mediansOf s t gs) ≤ length gs → length (cond b (middle g ∷ mediansOf s t gs) (mediansOf s t gs)) ≤ suc (length gs)
+      go : (b : Bool) → length (mediansOf s t gs) ≤ length gs → length (cond b (stayMedian s g ∷ mediansOf s t gs) (mediansOf s t gs)) ≤ suc (length gs)
       go true h = omega arith
       go false h = omega arith
 

@@ -17,7 +17,7 @@ use Rattle.lists.specs.Lists.{minusOne}
 use Rattle.distance.specs.declared.Point.{Point}
 use Rattle.settings.specs.declared.config.Config.{Config}
 use Rattle.trace.specs.Trace.{Fix, timed}
-use Rattle.stay.specs.Stays.{middle, isStay, groups, mediansOf, fixMediansOf, stayMedians, fixMedians}
+use Rattle.stay.specs.Stays.{stayMedian, isStay, groups, mediansOf, fixMediansOf, stayMedians, fixMedians}
 use Rattle.stay.specs.StepsEvents.{eventNumber, eventsFrom, eventMap}
 use Rattle.stay.proofs.Groups.{concat, concat-groups}
 
@@ -77,14 +77,14 @@ module _ (dist : Point → Point → Float) (s : Config) where
         ∙ ap (λ (l : List (Option Point)). l ++ map (medianAt all) (eventsFrom s t (cond (isStay s t g) (suc k) k) gs)) (map-replicate (medianAt all) (length g) (eventNumber (isStay s t g) k))
         ∙ go (isStay s t g) e (events-lie (suc k) gs all rest) (events-lie k gs all rest)
       where
-        go : (b : Bool) → drop k all ≡ cond b (middle g ∷ mediansOf s t gs) (mediansOf s t gs) ++ rest
+        go : (b : Bool) → drop k all ≡ cond b (stayMedian s g ∷ mediansOf s t gs) (mediansOf s t gs) ++ rest
             → (drop (suc k) all ≡ mediansOf s t gs ++ rest → map (medianAt all) (eventsFrom s t (suc k) gs) ≡ fixMediansOf s t gs)
             → (drop k all ≡ mediansOf s t gs ++ rest → map (medianAt all) (eventsFrom s t k gs) ≡ fixMediansOf s t gs)
             → replicate (length g) (medianAt all (eventNumber b k)) ++ map (medianAt all) (eventsFrom s t (cond b (suc k) k) gs)
-            ≡ replicate (length g) (cond b (some (middle g)) none) ++ fixMediansOf s t gs
+            ≡ replicate (length g) (cond b (some (stayMedian s g)) none) ++ fixMediansOf s t gs
         go true h a b =
-            ap₂ (λ (p : Point) (l : List (Option Point)). replicate (length g) (some p) ++ l) (at-first k all (mediansOf s t gs ++ rest) (middle g) noPoint h)
-            (a (after-first k all (mediansOf s t gs ++ rest) (middle g) h))
+            ap₂ (λ (p : Point) (l : List (Option Point)). replicate (length g) (some p) ++ l) (at-first k all (mediansOf s t gs ++ rest) (stayMedian s g) noPoint h)
+            (a (after-first k all (mediansOf s t gs ++ rest) (stayMedian s g) h))
         go false h a b = ap (λ (l : List (Option Point)). replicate (length g) none ++ l) (b h)
 
     -- ---- a number is -1 or that of a median
@@ -99,7 +99,7 @@ module _ (dist : Point → Point → Float) (s : Config) where
 
         go : (b : Bool) → ((j : ℕ) → Number (suc k + length (mediansOf s t gs)) (getD (eventsFrom s t (suc k) gs) j minusOne))
             → ((j : ℕ) → Number (k + length (mediansOf s t gs)) (getD (eventsFrom s t k gs) j minusOne))
-            → Number (k + length (cond b (middle g ∷ mediansOf s t gs) (mediansOf s t gs)))
+            → Number (k + length (cond b (stayMedian s g ∷ mediansOf s t gs) (mediansOf s t gs)))
             (getD (replicate (length g) (eventNumber b k) ++ eventsFrom s t (cond b (suc k) k) gs) i minusOne)
         go true a b =
             in-run (length g) (pos k) (eventsFrom s t (suc k) gs) (k + suc (length (mediansOf s t gs))) i (inr (k, refl, omega arith))

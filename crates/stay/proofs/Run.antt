@@ -12,11 +12,14 @@ use lib.ListN.{length, getD, drop, replicate, length-append, drop-of-length-le}
 use lib.Seq.{sets, drop-cons}
 use lib.Ieee.{Float, nan, le}
 use Rattle.distance.specs.declared.Point.{Point}
+use Rattle.distance.specs.Grid.{pointOnGrid}
 use Rattle.settings.specs.declared.config.Config.{Config}
 use Rattle.stay.specs.Ordered.{ordered, insertOrdered, median}
 use Rattle.trace.specs.Trace.{Fix}
-use Rattle.stay.specs.Stays.{middle, since, firstTime, lastTime, joins, isStay, groupsFrom, mediansOf}
+use Rattle.stay.specs.Stays.{middle, stayMedian, since, firstTime, lastTime, joins, isStay, groupsFrom, mediansOf}
 use Rattle.stay.specs.StepsEvents.{eventNumber, eventsFrom}
+-- Named so that the examples are checked before these lemmas.
+use Rattle.stay.specs.Examples
 use Rattle.stay.specs.Steps.{State, midOf, withPoint, closedAs, closed, step, joinTest, stayTest, elapsed}
 use Rattle.stay.proofs.Ordered.{ordered-more}
 use Rattle.stay.proofs.States.{step-joins, step-closes}
@@ -61,7 +64,7 @@ module _ (dist : Point → Point → Float) (s : Config) (t : Bool) (ts : List F
 
   -- ---- closing a group
 
-  ends-kept : (i : ℕ) (st fin : State) (g : List Fix) (gs : List (List Fix)) (ok : Bool) (m : Point) → isStay s t g ≡ ok → middle g ≡ m → length g ≡ i - st .start
+  ends-kept : (i : ℕ) (st fin : State) (g : List Fix) (gs : List (List Fix)) (ok : Bool) (m : Point) → isStay s t g ≡ ok → stayMedian s g ≡ m → length g ≡ i - st .start
       → Ends (closedAs ok m i st) fin gs → Ends st fin (g ∷ gs)
   unfolding closedAs mediansOf eventsFrom
   ends-kept i st fin g gs true m p q n e =
@@ -112,9 +115,10 @@ module _ (dist : Point → Point → Float) (s : Config) (t : Bool) (ts : List F
         go false e = refl
 
     ends-closed : (i : ℕ) (st fin : State) (g : List Fix) (gs : List (List Fix)) → Holds i st g → i ≤ length fs → Ends (closed s t ts i st) fin gs → Ends st fin (g ∷ gs)
-    unfolding closed
+    unfolding closed stayMedian
     ends-closed i st fin g gs h l e =
-        ends-kept i st fin g gs (stayTest t s (i - st .start) (elapsed t ts (st .start) (i - 1))) (midOf st) (sym (stay-is i st g h l)) (sym (mid-of i st g h)) (h .size) e
+        ends-kept i st fin g gs (stayTest t s (i - st .start) (elapsed t ts (st .start) (i - 1))) (pointOnGrid (s .«min_spatial_resolution») (midOf st)) (sym (stay-is i st g h l))
+        (ap (pointOnGrid (s .«min_spatial_resolution»)) (sym (mid-of i st g h))) (h .size) e
 
     -- ---- one fix
 

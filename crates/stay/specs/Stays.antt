@@ -1,4 +1,4 @@
--- docs/RULES.md, "Stays": the groups of a trace, which of them are stays, and their medians; and those of all traces. Definitions only.
+-- docs/RULES.md, "Stays" and "Grid": the groups of a trace, which of them are stays, and their medians on the grid; and those of all traces. Definitions only.
 use Prim.Native.Nat.{_-_}
 use mathlib.Core.Bool.{Bool, true, false, not, _&&_, _||_, cond}
 use mathlib.Core.List.{List, [], _∷_, _++_, map}
@@ -10,6 +10,7 @@ use Rattle.float.specs.Binary64.{sub64}
 use Rattle.distance.specs.declared.Point.{Point}
 use Rattle.settings.specs.declared.config.Config.{Config}
 use Rattle.distance.specs.Distance.{Metric}
+use Rattle.distance.specs.Grid.{pointOnGrid}
 use Rattle.stay.specs.Ordered.{ordered, median}
 use Rattle.trace.specs.Trace.{Fix, timed}
 
@@ -17,6 +18,12 @@ use Rattle.trace.specs.Trace.{Fix, timed}
 unfoldable pub middle : List Fix → Point
 unfolding ordered median
 middle g = record { x = median (ordered (map (λ (f : Fix). f .at .x) g)); y = median (ordered (map (λ (f : Fix). f .at .y) g)) }
+
+-- The median of an accepted stay: "each coordinate of a median becomes round(c / res) × res before places are told apart". Places, links, chains, the rule
+-- for -1 and visits take this one; the join test measures from `middle`.
+unfoldable pub stayMedian : Config → List Fix → Point
+unfolding middle pointOnGrid
+stayMedian s g = pointOnGrid (s .«min_spatial_resolution») (middle g)
 
 -- The time b less the time a. Without the two times it is NaN, which is within no bound.
 unfoldable pub since : Option Float → Option Float → Float
@@ -57,20 +64,20 @@ module _ (s : Config) where
   unfolding le since firstTime lastTime
   isStay t g = leb (s .«min_size») (length g) && (not t || le (s .«min_staying_time») (since (firstTime g) (lastTime g)))
 
-  -- The medians of those that are stays.
+  -- The medians of those that are stays, on the grid.
   unfoldable pub mediansOf : Bool → List (List Fix) → List Point
-  unfolding isStay middle
+  unfolding isStay stayMedian
   mediansOf t [] = []
-  mediansOf t (g ∷ gs) = let r = mediansOf t gs in cond (isStay t g) (middle g ∷ r) r
+  mediansOf t (g ∷ gs) = let r = mediansOf t gs in cond (isStay t g) (stayMedian s g ∷ r) r
 
   -- For each fix of the groups the median of the accepted stay it lies in, or none.
   unfoldable pub fixMediansOf : Bool → List (List Fix) → List (Option Point)
-  unfolding isStay middle
+  unfolding isStay stayMedian
   fixMediansOf t [] = []
-  fixMediansOf t (g ∷ gs) = replicate (length g) (cond (isStay t g) (some (middle g)) none) ++ fixMediansOf t gs
+  fixMediansOf t (g ∷ gs) = replicate (length g) (cond (isStay t g) (some (stayMedian s g)) none) ++ fixMediansOf t gs
 
 module _ (dist : Metric) (s : Config) where
-  -- Of one trace: the medians of its accepted stays, in order; of each fix the median of the accepted stay that it lies in, or none.
+  -- Of one trace, on the grid: the medians of its accepted stays, in order; of each fix the median of the accepted stay that it lies in, or none.
   unfoldable pub stayMedians : List Fix → List Point
   unfolding groups mediansOf
   stayMedians fs = mediansOf s (timed fs) (groups dist s fs)
@@ -79,12 +86,12 @@ module _ (dist : Metric) (s : Config) where
   unfolding groups fixMediansOf
   fixMedians fs = fixMediansOf s (timed fs) (groups dist s fs)
 
--- The medians of the accepted stays of all traces, in order.
+-- The medians of the accepted stays of all traces, on the grid, in order.
 unfoldable pub allMedians : Metric → Config → List (List Fix) → List Point
 allMedians dist s [] = []
 allMedians dist s (t ∷ ts) = stayMedians dist s t ++ allMedians dist s ts
 
--- Of each fix, in order of the traces, the median of the accepted stay that it lies in, or none.
+-- Of each fix, in order of the traces, the median, on the grid, of the accepted stay that it lies in, or none.
 unfoldable pub allFixMedians : Metric → Config → List (List Fix) → List (Option Point)
 allFixMedians dist s [] = []
 allFixMedians dist s (t ∷ ts) = fixMedians dist s t ++ allFixMedians dist s ts

@@ -10,6 +10,7 @@ use lib.ListN.{length, take, set, getD, replicate}
 use lib.Ieee.{Float, nan, le}
 use Rattle.float.specs.Binary64.{sub64, zero64}
 use Rattle.distance.specs.declared.Point.{Point}
+use Rattle.distance.specs.Grid.{pointOnGrid}
 use Rattle.settings.specs.declared.config.Config.{Config}
 use Rattle.stay.specs.declared.Open.{Open}
 use Rattle.stay.specs.Ordered.{insertOrdered, median}
@@ -82,8 +83,9 @@ closedAs ok m i st =
       my = cond ok (set (st .my) (st .stays) (m .y)) (st .my);
     }
 
+-- The same with its median on the grid, as a stay where it passes the test.
 unfoldable pub closed : Config → Bool → List Float → ℕ → State → State
-closed s t ts i st = closedAs (stayTest t s (i - st .start) (elapsed t ts (st .start) (i - 1))) (midOf st) i st
+closed s t ts i st = closedAs (stayTest t s (i - st .start) (elapsed t ts (st .start) (i - 1))) (pointOnGrid (s .«min_spatial_resolution») (midOf st)) i st
 
 -- One fix: it joins the open group, or closes it and opens the next.
 unfoldable pub step : (Point → Point → Float) → Config → Bool → List Float → Point → ℕ → State → State

@@ -173,7 +173,7 @@ fn keep(
     }
 }
 
-// The open group closed before fix i, as a stay or as none.
+// The open group closed before fix i, as a stay with its median on the grid or as none.
 fn close(
     times: &[f64],
     timed: bool,
@@ -191,7 +191,7 @@ fn close(
     let len = i - start;
     let last = i - 1;
     let span = elapsed(times, timed, start, last);
-    let m = middle(work, q, len);
+    let m = distance::grid::point_on_grid(middle(work, q, len), s.min_spatial_resolution);
     keep(work, events, q, i, o, m, is_stay(timed, s, len, span))
 }
 

@@ -11,7 +11,7 @@ use Rattle.lists.specs.Lists.{overlay}
 use Rattle.settings.specs.declared.config.Config.{Config}
 use Rattle.settings.specs.declared.refusal.Refusal.the-variants.{R1, Counts, Text}
 use Rattle.settings.specs.Checks.{refuseIf, firstOf, inTurn}
-use Rattle.settings.specs.Settings.{unusable, checkTimeBounds, checkConfig}
+use Rattle.settings.specs.Settings.{unusable, negative, outOfBounds, checkTimeBounds, checkResolution, checkConfig}
 use Rattle.text.specs.declared.Parsed.{Parsed}
 use Rattle.text.specs.declared.Parsed.the-variants.{Tracks, Refused}
 use Rattle.text.specs.Bytes.{bytes, isDigit}
@@ -27,7 +27,7 @@ unfolding read valuesOf configOf fixOf linesOf fixLines unlessEnded fixIn settin
 reads t = read t
 
 parses : List ℕ → Parsed
-unfolding reads parsed atMost768 unlessMany tooMany lengthsOf lengthsFrom withFix checkConfig checkTimeBounds unusable inTurn firstOf refuseIf finite le
+unfolding reads parsed atMost768 unlessMany tooMany lengthsOf lengthsFrom withFix checkConfig checkTimeBounds checkResolution unusable negative outOfBounds inTurn firstOf refuseIf finite le
 parses t = parsed (reads t)
 
 -- Names and settings as in docs/RULES.md, and these lines of fixes.
@@ -44,7 +44,7 @@ abbrev w : ℕ → Float
 w = whole64
 
 usual : Config
-usual = record { r1 = w 10; r2 = w 10; «label_singleton» = true; «min_staying_time» = w 300; «max_time_between» = w 86400; «min_size» = 2; seed = 42 }
+usual = record { r1 = w 10; r2 = w 10; «label_singleton» = true; «min_staying_time» = w 300; «max_time_between» = w 86400; «min_size» = 2; «min_spatial_resolution» = zero64; seed = 42 }
 
 -- ---- the rules' example
 
@@ -166,19 +166,19 @@ no-fix = refl
 
 -- Settings that the check refuses are in the form: -1, 0 and size 0.
 negative-r1 : reads (settingsOf "-1 0 0 300 86400 0 0\n")
-    ≡ inside (record { r1 = neg (w 1); r2 = w 0; «label_singleton» = false; «min_staying_time» = w 300; «max_time_between» = w 86400; «min_size» = 0; seed = 0 }) []
+    ≡ inside (record { r1 = neg (w 1); r2 = w 0; «label_singleton» = false; «min_staying_time» = w 300; «max_time_between» = w 86400; «min_size» = 0; «min_spatial_resolution» = zero64; seed = 0 }) []
 unfolding reads settingsOf
 negative-r1 = refl
 
 -- 769 fixes are 9, unless the settings are refused.
 many : Config → Parsed
-unfolding atMost768 unlessMany tooMany checkConfig checkTimeBounds unusable inTurn firstOf refuseIf finite le ofInt ofBits
+unfolding atMost768 unlessMany tooMany checkConfig checkTimeBounds checkResolution unusable negative outOfBounds inTurn firstOf refuseIf finite le ofInt ofBits
 many c = atMost768 c 769 1
 
 one-too-many : many usual ≡ Refused Counts
 unfolding many usual
 one-too-many = refl
 
-settings-first : many (record { r1 = w 0; r2 = w 10; «label_singleton» = true; «min_staying_time» = w 300; «max_time_between» = w 86400; «min_size» = 2; seed = 42 }) ≡ Refused R1
+settings-first : many (record { r1 = w 0; r2 = w 10; «label_singleton» = true; «min_staying_time» = w 300; «max_time_between» = w 86400; «min_size» = 2; «min_spatial_resolution» = zero64; seed = 42 }) ≡ Refused R1
 unfolding many
 settings-first = refl

@@ -7,7 +7,7 @@ use mathlib.Core.List.{List, [], _∷_}
 use lib.ListN.{length, getD, set, replicate}
 use lib.Dec.{eqb, leb, ltb}
 use lib.Ieee.{Float, neg}
-use Rattle.float.specs.Binary64.{whole64}
+use Rattle.float.specs.Binary64.{zero64, whole64}
 use Rattle.settings.specs.declared.config.Config.{Config}
 use Rattle.text.specs.declared.Parsed.{Parsed}
 use Rattle.text.specs.declared.Parsed.the-variants.{Tracks, Refused}
@@ -217,6 +217,7 @@ configIn sizes signs = record {
   «min_staying_time» = signedWhole (getD signs 3 0) (getD sizes 3 0);
   «max_time_between» = signedWhole (getD signs 4 0) (getD sizes 4 0);
   «min_size» = getD sizes 5 0;
+  «min_spatial_resolution» = zero64;
   seed = getD sizes 6 0;
 }
 

@@ -15,7 +15,7 @@ use Rattle.text.specs.declared.Parsed.{Parsed}
 use Rattle.text.specs.declared.Parsed.the-variants.{Tracks, Refused}
 use Rattle.text.specs.Values.{FixLine, Read, outside, inside, read, xsOf, ysOf, timesOf, marksOf, lengthsOf, Columns, columns}
 
--- 9, after the checks of the settings, 1 to 6. 7 and 8 cannot be: there is a fix, and the lengths agree.
+-- 9, after the check of the settings. 7 and 8 cannot be: there is a fix, and the lengths agree.
 unfoldable pub tooMany : Checked → Parsed
 tooMany passed = Refused Counts
 tooMany (failed e) = Refused e

@@ -5,12 +5,12 @@ use mathlib.Core.Option.{Option, none, some}
 use lib.Dec.{eqb}
 use lib.ListN.{getD}
 use lib.Ieee.{Float}
-use Rattle.float.specs.Binary64.{whole64}
+use Rattle.float.specs.Binary64.{zero64, whole64}
 use Rattle.settings.specs.declared.config.Config.{Config}
 use Rattle.text.specs.Fields.{Field, bad, sizeOf, floatOf, fieldTime}
 use Rattle.text.specs.Form.{Lines, linesOf, traceNumber}
 
--- r1 r2 single stay gap size seed.
+-- r1 r2 single stay gap size seed. The grid is off.
 unfoldable pub configOf : List Field → Config
 configOf fs = record {
   r1 = floatOf (getD fs 0 bad);
@@ -19,6 +19,7 @@ configOf fs = record {
   «min_staying_time» = floatOf (getD fs 3 bad);
   «max_time_between» = floatOf (getD fs 4 bad);
   «min_size» = sizeOf (getD fs 5 bad);
+  «min_spatial_resolution» = zero64;
   seed = sizeOf (getD fs 6 bad);
 }
 

@@ -35,7 +35,7 @@ pub struct Reader {
     pub signs: [u8; 11],
 }
 
-// 9, after 1 to 6.
+// 9, after the refusals of settings.
 fn too_many(c: Checked) -> Parsed
     ensures { λ r. ⌜ r ≡ tooMany c ⌝ }
 {
@@ -70,6 +70,7 @@ fn config(sizes: &[u64], signs: &[u8]) -> Config
         min_staying_time: machine::value(sizes, signs, 3),
         max_time_between: machine::value(sizes, signs, 4),
         min_size: slices::at_u64(sizes, 5) as usize,
+        min_spatial_resolution: 0.0,
         seed: slices::at_u64(sizes, 6),
     }
 }

@@ -26,6 +26,9 @@ number-requires-6 c κs = search needs
 number-requires-7 : tie.Need-number-requires-7
 number-requires-7 c κs = search needs
 
+number-requires-8 : tie.Need-number-requires-8
+number-requires-8 c κs = search needs
+
 float-of-bits-requires : tie.Need-float-of-bits-requires
 float-of-bits-requires c κs = search needs
 
@@ -38,12 +41,18 @@ float-of-bits-requires-3 c κs = search needs
 float-of-bits-requires-4 : tie.Need-float-of-bits-requires-4
 float-of-bits-requires-4 c κs = search needs
 
+float-of-bits-requires-5 : tie.Need-float-of-bits-requires-5
+float-of-bits-requires-5 c κs = search needs
+
 returns : tie.Need-returns
 returns c =
-    let after-bits2 = c .before .before .before in
+    let after-bits4 = c .before in
+    let after-bits3 = after-bits4 .before in
+    let after-bits2 = after-bits3 .before .before in
     let after-bits = after-bits2 .before in
     let after-seed = after-bits .before in
-    let after-size = after-seed .before in
+    let after-resolution = after-seed .before in
+    let after-size = after-resolution .before in
     let after-gap = after-size .before in
     let after-stay = after-gap .before in
     let after-single = after-stay .before in
@@ -58,12 +67,14 @@ returns c =
     let stay = number-on t i 3 4 _ _ _ refl (single .1) (after-stay .number4 .ensures) in
     let gap = number-on t i 4 5 _ _ _ refl (stay .1) (after-gap .number5 .ensures) in
     let size = number-on t i 5 6 _ _ _ refl (gap .1) (after-size .number6 .ensures) in
-    let seed = number-on t i 6 7 _ _ _ refl (size .1) (after-seed .number7 .ensures) in
+    let resolution = number-on t i 6 7 _ _ _ refl (size .1) (after-resolution .number7 .ensures) in
+    let seed = number-on t i 7 8 _ _ _ refl (resolution .1) (after-seed .number8 .ensures) in
     let a = float-on t i 0 _ _ (after-bits .float-of-bits .ensures) (r1 .0) in
     let b = float-on t i 1 _ _ (after-bits2 .float-of-bits2 .ensures) (r2 .0) in
-    let s = float-on t i 3 _ _ (c .before .float-of-bits3 .ensures) (stay .0) in
-    let g = float-on t i 4 _ _ (c .float-of-bits4 .ensures) (gap .0) in
-    (settings-are t i _ _ _ _ _ _ _ a b (single .0) s g (size .0) (seed .0), seed .1)
+    let s = float-on t i 3 _ _ (after-bits3 .float-of-bits3 .ensures) (stay .0) in
+    let g = float-on t i 4 _ _ (after-bits4 .float-of-bits4 .ensures) (gap .0) in
+    let h = float-on t i 6 _ _ (c .float-of-bits5 .ensures) (resolution .0) in
+    (settings-are t i _ _ _ _ _ _ _ _ a b (single .0) s g (size .0) h (seed .0), seed .1)
 
 pub read-settings-spec : {M : Type 1} → statement M
 read-settings-spec =
@@ -76,8 +87,10 @@ read-settings-spec =
     number-requires-5
     number-requires-6
     number-requires-7
+    number-requires-8
     float-of-bits-requires
     float-of-bits-requires-2
     float-of-bits-requires-3
     float-of-bits-requires-4
+    float-of-bits-requires-5
     returns)

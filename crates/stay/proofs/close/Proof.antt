@@ -18,6 +18,9 @@ elapsed-requires c κs = search needs
 middle-requires : tie.Need-middle-requires
 middle-requires c κs = search needs
 
+point-on-grid-requires : tie.Need-point-on-grid-requires
+point-on-grid-requires c κs = search needs
+
 is-stay-requires : tie.Need-is-stay-requires
 is-stay-requires c κs = search needs
 
@@ -35,9 +38,10 @@ unfolding closed stateOf midOf middleIn
 returns c =
     let after-keep = c .before .before .before in
     let after-is-stay = after-keep .before in
-    let after-middle = after-is-stay .before .before .before in
+    let after-grid = after-is-stay .before .before .before in
+    let after-middle = after-grid .before in
     let after-elapsed = after-middle .before .before in
-    after-keep .keep .ensures ∙ rw (after-is-stay .is-stay .ensures, after-middle .middle .ensures, after-elapsed .elapsed .ensures)
+    after-keep .keep .ensures ∙ rw (after-is-stay .is-stay .ensures, after-grid .point-on-grid .ensures, after-middle .middle .ensures, after-elapsed .elapsed .ensures)
 
 pub close-spec : {M : Type 1} → statement M
 close-spec =
@@ -47,6 +51,7 @@ close-spec =
     sub-last
     elapsed-requires
     middle-requires
+    point-on-grid-requires
     is-stay-requires
     keep-requires
     same-length

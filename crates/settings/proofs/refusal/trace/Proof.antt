@@ -1,5 +1,4 @@
 -- `settings::refusal::trace` meets its contract: the arm that binds the number is given the case, and the last arm's cases carry none.
---
 use mathlib.Core.Path.{_≡_, refl}
 use mathlib.Core.Bool.{false}
 use mathlib.Core.List.{List, [], _∷_}
@@ -14,7 +13,7 @@ use Rattle.lists.specs.Lists.{member}
 use Rattle.lists.proofs.Tests.{or-left, or-right}
 use Rattle.settings.specs.Refusals.{traceOf}
 use Rattle.settings.specs.declared.refusal.Refusal.{Refusal}
-use Rattle.settings.specs.declared.refusal.Refusal.the-variants.{R1, R2, MinStayingTime, MaxTimeBetween, TimeBounds, MinSize, NoTrace, Lengths, Counts, Work, EmptyTrace, Coordinate, Timestamp, PartlyTimed, TimeOrder, CoordinateSize, TimeMark, NoStop, TooManyPlaces, NotFitted, Output, Text}
+use Rattle.settings.specs.declared.refusal.Refusal.the-variants.{R1, R2, MinStayingTime, MaxTimeBetween, TimeBounds, MinSize, NoTrace, Lengths, Counts, Work, EmptyTrace, Coordinate, Timestamp, PartlyTimed, TimeOrder, CoordinateSize, TimeMark, NoStop, TooManyPlaces, NotFitted, Output, Text, MinSpatialResolution, ResolutionBounds}
 use Rattle.settings.proofs.refusal.Refusal.{the-type}
 use Rattle.settings.proofs.refusal.trace.Statement.{statement}
 use Rattle.settings.proofs.refusal.trace.Tie as tie
@@ -28,7 +27,7 @@ never (k ∷ j ∷ ns) n e (inr h) = never (j ∷ ns) n (or-right (eqb n k) (mem
 
 -- the cases without a trace, by position
 abbrev plain : List ℕ
-plain = 0 ∷ 1 ∷ 2 ∷ 3 ∷ 4 ∷ 5 ∷ 6 ∷ 7 ∷ 8 ∷ 9 ∷ 16 ∷ 17 ∷ 18 ∷ 19 ∷ 20 ∷ 21 ∷ []
+plain = 0 ∷ 1 ∷ 2 ∷ 3 ∷ 4 ∷ 5 ∷ 6 ∷ 7 ∷ 8 ∷ 9 ∷ 16 ∷ 17 ∷ 18 ∷ 19 ∷ 20 ∷ 21 ∷ 22 ∷ 23 ∷ []
 
 other : (e : Refusal) → OneOf plain (tagOf the-type e) → 0 ≡ traceOf e
 unfolding member
@@ -54,6 +53,8 @@ other TooManyPlaces h = refl
 other NotFitted h = refl
 other Output h = refl
 other Text h = refl
+other MinSpatialResolution h = refl
+other ResolutionBounds h = refl
 
 enum-known-e : tie.Need-enum-known-e
 enum-known-e c = search needs
