@@ -1,9 +1,9 @@
 -- A coordinate c within the limit that is rounded to a grid of step res is within the grid's limit. Say that the quotient c / res becomes N steps. If |c| / res were at most
 -- N - 1, so would be the quotient, since the format holds N - 1 and rounding keeps the order; but then its nearest whole number is not N. So N - 1 steps are less than
 -- |c|, and N steps less than |c| and one step more. Rounding the product keeps that order too.
-use mathlib.Core.Path.{_≡_, refl, ap, ap₂}
+use mathlib.Core.Path.{_≡_, refl, sym, ap, ap₂, subst}
 use Prim.Native.Nat.{ℕ, zero, suc, _+_, _*_, _≤_, _<_}
-use native.Mathlib.Nat.{mul-pos, mul-le-mul, mul-le-mul-right, le-of-mul-le-mul-right, le-trans, le-suc, le-of-suc-le-suc, div-lt-iff-lt-mul}
+use native.Mathlib.Nat.{mul-pos, mul-le-mul, mul-le-mul-right, le-of-mul-le-mul-right, le-trans, le-suc}
 use native.Mathlib.Decide.{decLe}
 use native.Mathlib.Omega.{arith}
 use mathlib.Core.Bool.{Bool, true, false, _&&_, cond, false≢true, true≢false}
@@ -15,10 +15,14 @@ use lib.Ieee.Bits.{is-true}
 use lib.Ieee.Fits.{down-pos, and-l, and-r}
 use Rattle.float.specs.Binary64.{zero64, whole64, mul64, div64}
 use Rattle.float.specs.Round.{nearestWhole, roundTiesAway}
+use Rattle.float.proofs.NearestWhole.{nearest-at-most}
+use Rattle.float.proofs.RoundLaws.{rounded-value}
 use Rattle.float.proofs.Exact.{Is, most, is-round}
 use Rattle.float.proofs.Order.{true→T}
 use Rattle.distance.specs.declared.Point.{Point}
 use Rattle.distance.specs.Limit.{limit, within, inLimit}
+-- Named so that the examples are checked before these lemmas.
+use Rattle.distance.specs.Examples
 use Rattle.distance.specs.Grid.{onGrid, pointOnGrid}
 use Rattle.distance.proofs.Size.{round-within, within-mono}
 use Rattle.distance.proofs.Bound.{gridLimit, inGridLimit}
@@ -37,10 +41,6 @@ pub record Step (res : Float) : Type 0 where
 
 -- ---- the nearest whole number
 
-nearest-at-most : (a c k : ℕ) → 0 < c → a ≤ k * c → nearestWhole a c ≤ k
-unfolding nearestWhole
-nearest-at-most a c k C h = le-of-suc-le-suc (div-lt-iff-lt-mul {k = 2 * c} (omega arith) .1 (let z : 2 * a + c < suc k * (2 * c) = omega arith in z))
-
 -- x rounded is a whole number, and no larger than any whole number that x is within
 record Rounded (x : Float) : Type 0 where
   pub sign : Bool
@@ -49,10 +49,10 @@ record Rounded (x : Float) : Type 0 where
   pub least : (k : ℕ) → T (within k x) → count ≤ k
 
 rounded : (x : Float) (k : ℕ) → k ≤ most → T (within k x) → Rounded x
-unfolding within roundTiesAway
+unfolding within
 rounded nan k l w = absurd w
 rounded (inf s) k l w = absurd w
-rounded (fin s m e) k l w = record { sign = s; count = n; value = is-round s n (le-trans (smallest k w) l); least = smallest }
+rounded (fin s m e) k l w = record { sign = s; count = n; value = subst (λ (z : Float). Is z s n) (sym (rounded-value (fin s m e) s (m * up e) (down e) (down-pos e) (refl, refl))) (is-round s n (le-trans (smallest k w) l)); least = smallest }
   where
     n : ℕ
     n = nearestWhole (m * up e) (down e)

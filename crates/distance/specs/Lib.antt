@@ -1,3 +1,4 @@
 pub mod Distance
 pub mod Limit
 pub mod Grid
+pub mod Examples

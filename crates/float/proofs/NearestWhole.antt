@@ -1,11 +1,14 @@
 -- The nearest whole number of a fraction: equal fractions have the same one (`nearest-same`), it is the quotient or one more by twice the remainder (`nearest-down`, `nearest-up`),
--- 0 below a half (`nearest-zero`) and the number itself at a whole number (`nearest-own`); and how far it lies from the fraction (`nearest-under`, `nearest-over`).
+-- 0 below a half (`nearest-zero`) and the number itself at a whole number (`nearest-own`); and how far it lies from the fraction (`nearest-under`, `nearest-over`);
+-- it is at most every whole number that the fraction is (`nearest-at-most`).
 use mathlib.Core.Path.{_≡_, sym, ap, _∙_, subst}
 use Prim.Native.Nat.{ℕ, zero, suc, _+_, _-_, _*_, _/_, _%_, _≤_, _<_}
-use native.Mathlib.Nat.{lt-irrefl, lt-suc-self, mod-lt, div-add-mod', div-mul-le-self, div-lt-iff-lt-mul, div-eq-of-lt}
+use native.Mathlib.Nat.{lt-irrefl, lt-suc-self, le-of-suc-le-suc, mod-lt, div-add-mod', div-mul-le-self, div-lt-iff-lt-mul, div-eq-of-lt}
 use native.Mathlib.Omega.{arith}
 use lib.Arith.{digits-div}
 use lib.Ieee.Nearest.{div-same}
+-- Named so that the examples are checked before these lemmas.
+use Rattle.float.specs.Examples
 use Rattle.float.specs.Round.{nearestWhole}
 
 twice-pos : (c : ℕ) → 0 < c → 0 < 2 * c
@@ -75,6 +78,10 @@ nearest-over a c p =
   where
     turn : (q c : ℕ) → suc q * (2 * c) ≡ 2 * q * c + 2 * c
     turn q c = omega arith
+
+pub nearest-at-most : (a c k : ℕ) → 0 < c → a ≤ k * c → nearestWhole a c ≤ k
+unfolding nearestWhole
+nearest-at-most a c k p h = le-of-suc-le-suc (div-lt-iff-lt-mul {k = 2 * c} (twice-pos c p) .1 (let z : 2 * a + c < suc k * (2 * c) = omega arith in z))
 
 -- so it is at most one above the numerator
 pub nearest-most : (a c : ℕ) → 0 < c → nearestWhole a c ≤ a + 1

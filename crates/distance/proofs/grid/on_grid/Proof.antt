@@ -5,6 +5,8 @@ use lib.Ieee.{Float, lt}
 use borrow.Author.Needs.{needs}
 use Rattle.float.specs.Binary64.{zero64, mul64, div64}
 use Rattle.float.specs.Round.{roundTiesAway}
+-- Named so that the examples are checked before this proof.
+use Rattle.distance.specs.Examples
 use Rattle.distance.specs.Grid.{onGrid}
 use Rattle.distance.proofs.grid.on_grid.Statement.{statement}
 use Rattle.distance.proofs.grid.on_grid.Tie as tie
