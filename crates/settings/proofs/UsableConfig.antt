@@ -12,6 +12,8 @@ use Rattle.float.proofs.Order.{le-is, finite-number}
 use Rattle.settings.specs.declared.config.Config.{Config}
 use Rattle.settings.specs.declared.refusal.Refusal.the-variants.{R1, R2, MinStayingTime, MaxTimeBetween, TimeBounds, MinSize, MinSpatialResolution, ResolutionBounds}
 use Rattle.settings.specs.declared.refusal.Checked.the-variants.{Accepted}
+-- Named so that the examples are checked before these lemmas.
+use Rattle.settings.specs.Examples
 use Rattle.settings.specs.Settings.{unusable, least, negative, outOfBounds, checkTimeBounds, checkResolution, checkConfig}
 use Rattle.settings.proofs.Turns.{passed, turn-first, turn-rest}
 
