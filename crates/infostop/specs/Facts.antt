@@ -21,12 +21,13 @@ use Rattle.rng.specs.Rng.{seeded, nextU64}
 use Rattle.cluster.specs.Examples.{clusterComputed}
 use Rattle.cluster.specs.Cluster.{noneLabelled}
 use Rattle.settings.specs.Checks.{refuseIf, firstOf, inTurn, eachOf, eachFrom}
+use Rattle.settings.specs.Tries.{withStep}
 use Rattle.settings.specs.Settings.{unusable, negative, outOfBounds, checkTimeBounds, checkResolution, checkConfig}
 use Rattle.checks.specs.Traces.{finitePoint, finiteTime, checkFix, untimed, partlyTimed, above, aboveFirst, inTimeOrder, checkTimes, checkTrace, checkFixSize, checkSize}
 use Rattle.checks.specs.Tracks.{sameLengths, checkLengths, checkCounts, checkWork, checkMark, checkContents, checkTracks}
 use Rattle.cluster.specs.FixLabels.{labelFor, fixLabels}
 use Rattle.infostop.specs.Fit.{unlessNone, givenBy, fromPlaces, fromMedians, fitTraces, unlessRefused, fit}
-use Rattle.infostop.specs.Tries.{withStep, at, atTime, twice, fitWith, fitOf, number, labels, resultOf, placesOf, placeCount, pairLinks}
+use Rattle.infostop.specs.Tries.{at, atTime, twice, fitWith, fitOf, number, labels, resultOf, placesOf, placeCount, pairLinks}
 
 -- Of numbers.
 pub record NumberFacts : Type 0 where

@@ -33,7 +33,7 @@ use Rattle.settings.specs.declared.refusal.Refusal.{Refusal}
 use Rattle.settings.specs.declared.refusal.Refusal.the-variants.{Lengths, TimeOrder, NoStop, TooManyPlaces, MinSpatialResolution}
 use Rattle.infostop.specs.Demand.{Given, isIn, labelIn, numbered, net, medians, distinct, labelOf, Outside, LiesIn, Alone, linkedMedians, medianLabel, shownGroups, NeighbourGroup, change, Demand3}
 use Rattle.infostop.specs.Fit.{Fitted, refused, fitted}
-use Rattle.infostop.specs.Tries.{withStep, settings}
+use Rattle.settings.specs.Tries.{withStep, settings}
 use Rattle.infostop.specs.declared.model.Infostop.{Infostop}
 use Rattle.infostop.specs.declared.answer.Answer.the-variants.{Labelled, Refused}
 use Rattle.infostop.specs.declared.answer.Fit.{Fit}

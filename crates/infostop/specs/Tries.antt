@@ -1,6 +1,6 @@
--- The rules' settings and tracks to try, in a form that reads like their list. Definitions only.
+-- The rules' tracks to try, with their settings, in a form that reads like their list. Definitions only.
 use Prim.Native.Nat.{ℕ}
-use mathlib.Core.Bool.{Bool, true, false}
+use mathlib.Core.Bool.{Bool, false}
 use mathlib.Core.List.{List, [], _∷_, _++_, map}
 use mathlib.Core.Option.{Option, none, some}
 use lib.IntN.{ℤ}
@@ -12,25 +12,8 @@ use Rattle.neighbors.specs.Places.{Place}
 use Rattle.neighbors.specs.Links.{link}
 use Rattle.settings.specs.declared.config.Config.{Config}
 use Rattle.settings.specs.Refusals.{numberOf}
+use Rattle.settings.specs.Tries.{settings}
 use Rattle.infostop.specs.Fit.{Outcome, refused, fitted, fit}
-
--- 10 10 1 300 86400 2 42, and a step of the grid.
-abbrev pub withStep : Float → Config
-withStep step =
-    record {
-      r1 = whole64 10;
-      r2 = whole64 10;
-      «label_singleton» = true;
-      «min_staying_time» = whole64 300;
-      «max_time_between» = whole64 86400;
-      «min_size» = 2;
-      «min_spatial_resolution» = step;
-      seed = 42;
-    }
-
--- The same with the grid off.
-abbrev pub settings : Config
-settings = withStep zero64
 
 -- A fix as the list writes it.
 pub record Seen : Type 0 where

@@ -14,6 +14,7 @@ use Rattle.trace.specs.Trace.{Fix, total}
 use Rattle.stay.specs.Stays.{stayMedians}
 use Rattle.neighbors.specs.Places.{samePlace, placesIn, placeOf}
 use Rattle.settings.specs.Checks.{refuseIf, firstOf, inTurn}
+use Rattle.settings.specs.Tries.{withStep}
 use Rattle.checks.specs.Tracks.{sameLengths, checkLengths}
 use Rattle.cluster.specs.FixLabels.{labelFor, stayLabels}
 use Rattle.infostop.specs.declared.model.Infostop.{Infostop}
@@ -26,17 +27,7 @@ use Rattle.reports.specs.Visits.{visitedLabels, visitsTo, traceVisits}
 modelOn : Float → Float → Infostop
 modelOn step x =
     record {
-      config =
-          record {
-            r1 = whole64 10;
-            r2 = whole64 10;
-            «label_singleton» = true;
-            «min_staying_time» = whole64 300;
-            «max_time_between» = whole64 86400;
-            «min_size» = 2;
-            «min_spatial_resolution» = step;
-            seed = 42;
-          };
+      config = withStep step;
       xs = x ∷ [];
       ys = zero64 ∷ [];
       labels = pos 0 ∷ [];

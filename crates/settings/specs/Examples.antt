@@ -1,6 +1,5 @@
 -- The check of the settings, run at a few values: the edges of 23 and 24, and which cause comes first.
 use mathlib.Core.Path.{_≡_, refl}
-use mathlib.Core.Bool.{true}
 use Prim.Native.Nat.{ℕ}
 use lib.Ieee.{Float, nan, binary64, neg, ofInt, ofBits, le, lt}
 use Rattle.float.specs.Binary64.{whole64, zero64, infinity64, finite}
@@ -9,43 +8,29 @@ use Rattle.settings.specs.declared.refusal.Checked.{Checked}
 use Rattle.settings.specs.declared.refusal.Checked.the-variants.{Accepted, Refused}
 use Rattle.settings.specs.Checks.{refuseIf, firstOf, inTurn}
 use Rattle.settings.specs.Settings.{unusable, least, negative, outOfBounds, checkTimeBounds, checkResolution, checkConfig}
+use Rattle.settings.specs.Tries.{settingsWith}
 
--- The answer to min_staying_time, max_time_between, min_size and min_spatial_resolution, the other settings being usable.
-settings : ℕ → ℕ → ℕ → Float → Checked
+-- The answer to stay, gap, size and a step of the grid, and to a step alone.
+checked : ℕ → ℕ → ℕ → Float → Checked
 unfolding checkConfig checkTimeBounds checkResolution unusable negative outOfBounds inTurn firstOf refuseIf finite le lt neg ofInt ofBits
-settings stay gap size res =
-    checkConfig
-    record {
-      r1 = whole64 10;
-      r2 = whole64 10;
-      «label_singleton» = true;
-      «min_staying_time» = whole64 stay;
-      «max_time_between» = whole64 gap;
-      «min_size» = size;
-      «min_spatial_resolution» = res;
-      seed = 42;
-    }
-
-config : ℕ → ℕ → ℕ → Checked
-unfolding settings
-config stay gap size = settings stay gap size zero64
+checked stay gap size step = checkConfig (settingsWith stay gap size step)
 
 step : Float → Checked
-unfolding settings
-step = settings 300 86400 2
+unfolding checked
+step = checked 300 86400 2
 
 -- Those of the rules' list.
-usual : config 300 86400 2 ≡ Accepted
-unfolding config
+usual : checked 300 86400 2 zero64 ≡ Accepted
+unfolding checked
 usual = refl
 
-zero-stay : config 0 86400 2 ≡ Refused MinStayingTime
-unfolding config
+zero-stay : checked 0 86400 2 zero64 ≡ Refused MinStayingTime
+unfolding checked
 zero-stay = refl
 
 -- The first cause of two.
-equal-bounds : config 300 300 1 ≡ Refused TimeBounds
-unfolding config
+equal-bounds : checked 300 300 1 zero64 ≡ Refused TimeBounds
+unfolding checked
 equal-bounds = refl
 
 -- 23: NaN, an infinity, below zero; -0.0 is zero.
@@ -87,6 +72,6 @@ unfolding step
 step-above-largest = refl
 
 -- 6 before 23.
-size-first : settings 300 86400 1 nan ≡ Refused MinSize
-unfolding settings
+size-first : checked 300 86400 1 nan ≡ Refused MinSize
+unfolding checked
 size-first = refl

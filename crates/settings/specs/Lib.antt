@@ -1,4 +1,5 @@
 pub mod Refusals
 pub mod Checks
 pub mod Settings
+pub mod Tries
 pub mod Examples

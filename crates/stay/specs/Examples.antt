@@ -1,5 +1,4 @@
 -- The definitions, run at a few values: the rules' list for a median and for single traces.
-use mathlib.Core.Bool.{true}
 use mathlib.Core.Path.{_≡_, refl}
 use mathlib.Core.List.{List, [], _∷_}
 use mathlib.Core.Option.{Option, none, some}
@@ -8,7 +7,7 @@ use lib.IntN.{ℤ, pos, negsuc}
 use lib.Ieee.{Float, binary64, ofInt, ofBits}
 use Rattle.float.specs.Binary64.{zero64, whole64}
 use Rattle.distance.specs.Distance.{euclidean}
-use Rattle.settings.specs.declared.config.Config.{Config}
+use Rattle.settings.specs.Tries.{withStep, settings}
 use Rattle.stay.specs.Ordered.{ordered, median}
 use Rattle.trace.specs.Trace.{Fix}
 use Rattle.stay.specs.StepsEvents.{eventMap}
@@ -23,23 +22,6 @@ ordered-4 : ordered (whole64 10 ∷ whole64 2 ∷ whole64 3 ∷ whole64 1 ∷ []
 unfolding ordered ofInt
 ordered-4 = refl
 
--- r1 10, size 2, stay 300, gap 86400, and a step of the grid
-withStep : Float → Config
-withStep step =
-    record {
-      r1 = whole64 10;
-      r2 = whole64 10;
-      «label_singleton» = true;
-      «min_staying_time» = whole64 300;
-      «max_time_between» = whole64 86400;
-      «min_size» = 2;
-      «min_spatial_resolution» = step;
-      seed = 42;
-    }
-
-settings : Config
-settings = withStep zero64
-
 fix : ℕ → ℕ → Option Float → Fix
 fix x y t = record { at = record { x = whole64 x; y = whole64 y }; time = t }
 
@@ -48,7 +30,7 @@ events fs = eventMap euclidean settings 0 fs
 
 -- What is computed below: to unfold this is to unfold all that it names.
 unfoldable computed : Unit {0}
-unfolding withStep settings fix events eventMap stayMedian stayMedians euclidean ofInt
+unfolding fix events eventMap stayMedian stayMedians euclidean ofInt
 computed = tt
 
 -- (0,0), (6,8): one stay, at (3, 4)

@@ -12,6 +12,7 @@ use Rattle.settings.specs.declared.config.Config.{Config}
 use Rattle.settings.specs.declared.refusal.Refusal.the-variants.{R1, Counts, Text}
 use Rattle.settings.specs.Checks.{refuseIf, firstOf, inTurn}
 use Rattle.settings.specs.Settings.{unusable, negative, outOfBounds, checkTimeBounds, checkResolution, checkConfig}
+use Rattle.settings.specs.Tries.{settings}
 use Rattle.text.specs.declared.Parsed.{Parsed}
 use Rattle.text.specs.declared.Parsed.the-variants.{Tracks, Refused}
 use Rattle.text.specs.Bytes.{bytes, isDigit}
@@ -43,21 +44,18 @@ settingsOf s = bytes "r1 r2 single stay gap size seed\n" ++ bytes s ++ bytes "tr
 abbrev w : ℕ → Float
 w = whole64
 
-usual : Config
-usual = record { r1 = w 10; r2 = w 10; «label_singleton» = true; «min_staying_time» = w 300; «max_time_between» = w 86400; «min_size» = 2; «min_spatial_resolution» = zero64; seed = 42 }
-
 -- ---- the rules' example
 
 example : List ℕ
 unfolding bytes
 example = bytes "r1 r2 single stay gap size seed\n10 10 1 300 86400 2 42\ntrace x y time\n0 0 0 -\n0 3 4 -\n"
 
-example-reads : reads example ≡ inside usual (record { trace = 0; x = w 0; y = w 0; time = none } ∷ record { trace = 0; x = w 3; y = w 4; time = none } ∷ [])
-unfolding reads example usual
+example-reads : reads example ≡ inside settings (record { trace = 0; x = w 0; y = w 0; time = none } ∷ record { trace = 0; x = w 3; y = w 4; time = none } ∷ [])
+unfolding reads example
 example-reads = refl
 
-example-parses : parses example ≡ Tracks (record { config = usual; fixes = 2; traces = 1 })
-unfolding parses example usual
+example-parses : parses example ≡ Tracks (record { config = settings; fixes = 2; traces = 1 })
+unfolding parses example
 example-parses = refl
 
 -- The slices: two fixes of one trace, without times; behind them stays what was there.
@@ -70,12 +68,12 @@ example-slices = refl
 
 -- -0 is 0.0; zeros in front are digits; a time may be negative. Two traces.
 minus-zero : reads (fixesOf "0 -0 007 -12\n1 1 1 5\n")
-    ≡ inside usual (record { trace = 0; x = zero64; y = w 7; time = some (neg (w 12)) } ∷ record { trace = 1; x = w 1; y = w 1; time = some (w 5) } ∷ [])
-unfolding reads fixesOf usual
+    ≡ inside settings (record { trace = 0; x = zero64; y = w 7; time = some (neg (w 12)) } ∷ record { trace = 1; x = w 1; y = w 1; time = some (w 5) } ∷ [])
+unfolding reads fixesOf
 minus-zero = refl
 
-largest : reads (fixesOf "0 1000000000 -1000000000 -\n") ≡ inside usual (record { trace = 0; x = w 1000000000; y = neg (w 1000000000); time = none } ∷ [])
-unfolding reads fixesOf usual
+largest : reads (fixesOf "0 1000000000 -1000000000 -\n") ≡ inside settings (record { trace = 0; x = w 1000000000; y = neg (w 1000000000); time = none } ∷ [])
+unfolding reads fixesOf
 largest = refl
 
 -- ---- not in the form
@@ -160,8 +158,8 @@ outside-parses = refl
 -- ---- in the form
 
 -- No fix line: a fit answers 7.
-no-fix : parses (settingsOf "10 10 1 300 86400 2 42\n") ≡ Tracks (record { config = usual; fixes = 0; traces = 0 })
-unfolding parses settingsOf usual
+no-fix : parses (settingsOf "10 10 1 300 86400 2 42\n") ≡ Tracks (record { config = settings; fixes = 0; traces = 0 })
+unfolding parses settingsOf
 no-fix = refl
 
 -- Settings that the check refuses are in the form: -1, 0 and size 0.
@@ -175,8 +173,8 @@ many : Config → Parsed
 unfolding atMost768 unlessMany tooMany checkConfig checkTimeBounds checkResolution unusable negative outOfBounds inTurn firstOf refuseIf finite le ofInt ofBits
 many c = atMost768 c 769 1
 
-one-too-many : many usual ≡ Refused Counts
-unfolding many usual
+one-too-many : many settings ≡ Refused Counts
+unfolding many
 one-too-many = refl
 
 settings-first : many (record { r1 = w 0; r2 = w 10; «label_singleton» = true; «min_staying_time» = w 300; «max_time_between» = w 86400; «min_size» = 2; «min_spatial_resolution» = zero64; seed = 42 }) ≡ Refused R1
