@@ -47,18 +47,19 @@ rows-front k n s h l e q = record {
 
 -- ---- the labels that the grouping gives
 
+-- Dense labels are at most as many as the nodes.
+pub dense-few : (part : List ℕ) → labelCount (relabelDense part) ≤ length (relabelDense part)
+dense-few part =
+    count-le (relabelDense part) (length (relabelDense part))
+    (λ u h. let k : u < length part = subst (λ (z : ℕ). u < z) (relabel-long part) h in
+    let a = relabel-at part u k in
+    let b = rank-le part (lowest (getD part u 0) part) in
+    let d = lowest-of part u k in
+    omega arith)
+
 pub labels-few : {ls : List ℕ} (r : Kept) (net : Network) (seed : ℕ) → groupingOf ls r ≡ runInfomap net seed → labelCount ls ≤ length ls
 unfolding runInfomap
-labels-few r net seed e = subst (λ (l : List ℕ). labelCount l ≤ length l) (sym (ap (λ (g : Grouping). g .partition) e)) (dense (keptGrouping net seed .partition))
-  where
-    dense : (part : List ℕ) → labelCount (relabelDense part) ≤ length (relabelDense part)
-    dense part =
-        count-le (relabelDense part) (length (relabelDense part))
-        (λ u h. let k : u < length part = subst (λ (z : ℕ). u < z) (relabel-long part) h in
-        let a = relabel-at part u k in
-        let b = rank-le part (lowest (getD part u 0) part) in
-        let d = lowest-of part u k in
-        omega arith)
+labels-few r net seed e = subst (λ (l : List ℕ). labelCount l ≤ length l) (sym (ap (λ (g : Grouping). g .partition) e)) (dense-few (keptGrouping net seed .partition))
 
 module _ (dist : Metric) (r2 : Float) (ps : List Place) where
   -- The compacted table is that of the nodes' network.

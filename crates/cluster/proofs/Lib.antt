@@ -7,6 +7,7 @@ pub mod Before
 pub mod Walk
 pub mod NoGap
 pub mod Clustered
+pub mod LabelsBelow
 pub mod FoundNodes
 pub mod NoneLabelled
 pub mod FixLabels

@@ -1,6 +1,7 @@
 pub mod Theorem
 pub mod Accepted
 pub mod FittedPlaces
+pub mod FittedLabels
 pub mod Arrays
 pub mod Grouping
 pub mod Stays
