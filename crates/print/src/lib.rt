@@ -3,8 +3,8 @@ use settings::refusal::Refusal;
 ghost use Rattle.print.specs.Lines.{labelsText, refusalText};
 ghost use Rattle.print.specs.Written.{Writes};
 
-mod bytes;
-mod lines;
+pub mod bytes;
+pub mod lines;
 
 // The labels of the fixes of all traces; `lens` are the lengths of the traces. Hands back how many bytes are written.
 pub fn print_labels(lens: &[u32], labels: &[i32], out: &mut [u8]) -> usize

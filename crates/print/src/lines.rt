@@ -6,13 +6,13 @@ ghost use lib.IntN.{natAbs};
 ghost use Rattle.print.specs.Lines.{labelText, line as Lines·line, traceLines, lines as Lines·lines};
 ghost use Rattle.print.specs.Steps.{out as Steps·out, pushes, isNumber};
 
-fn is_number(l: i32) -> bool
+pub fn is_number(l: i32) -> bool
     ensures { λ r. ⌜ r ≡ isNumber l ⌝ }
 {
     l >= 0
 }
 
-fn number(l: i32) -> u64
+pub fn number(l: i32) -> u64
     requires { ⌜ isNumber l ≡ true ⌝ }
     ensures { λ r. ⌜ r ≡ natAbs l ⌝ }
 {

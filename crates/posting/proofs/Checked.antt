@@ -1,0 +1,60 @@
+-- The check of a posting sheet: what it ensures where it accepts, and its last part as the code makes it.
+use mathlib.Core.Path.{_≡_, refl}
+use mathlib.Core.Bool.{true, false, not, _||_}
+use mathlib.Core.List.{List}
+use Prim.Native.Nat.{ℕ, _+_, _*_, _≤_, _<_}
+use borrow.Author.Tests.{lt-ltb, le-ltb, ltb-false, not-false}
+use lib.Dec.{ltb}
+use lib.IntN.{ℤ}
+use lib.ListN.{length}
+use Rattle.lists.proofs.Tests.{or-left, or-right, or-true}
+use Rattle.settings.specs.declared.refusal.Refusal.the-variants.{Output}
+use Rattle.settings.specs.declared.refusal.Checked.{Checked}
+use Rattle.settings.specs.declared.refusal.Checked.the-variants.{Accepted, Refused}
+use Rattle.settings.specs.Checks.{refuseIf}
+use Rattle.settings.proofs.Turns.{refuse, pass, passed, turn-first, turn-rest}
+use Rattle.checks.specs.Tracks.{checkLabelLengths, checkCounts}
+use Rattle.checks.proofs.Lengths.{lengths-agree, counts-few}
+use Rattle.posting.specs.Sheet.{sheet, pageCount}
+use Rattle.posting.specs.Posted.{allInColumn, checkSheet}
+use Rattle.posting.specs.Steps.{SheetWithin}
+use Rattle.posting.proofs.Sizes.{sheet-long}
+
+module _ (lens : List ℕ) (labels : List ℤ) where
+  pub within : checkLabelLengths lens (length labels) ≡ Accepted → checkCounts (length lens) (length labels) 1 ≡ Accepted → allInColumn labels ≡ true
+      → SheetWithin lens labels
+  within a b h =
+      let n = length labels in
+      let counted = counts-few (length lens) n 1 b in
+      record { few-traces = counted .few-traces; few-fixes = counted .few-fixes; sum = lengths-agree lens n n n n n a .sum; labels-within = h }
+
+  -- ---- 21, as the code finds it: first by the labels, then by the length of the sheet
+  module _ (room : ℕ) where
+    abbrev last : Checked
+    last = refuseIf (ltb room (length (sheet lens labels)) || not (allInColumn labels)) Output
+
+    pub label-outside : allInColumn labels ≡ false → last ≡ Refused Output
+    label-outside h = refuse _ Output (or-true (ltb room (length (sheet lens labels))) (not (allInColumn labels)) (rw h))
+
+    pub room-short : SheetWithin lens labels → room < 14 * (length labels + pageCount (length labels))
+        → last ≡ Refused Output
+    room-short w h = rw (lt-ltb room (length (sheet lens labels)) (rw (sheet-long lens labels w) h)) (refuse true Output refl)
+
+    pub room-enough : SheetWithin lens labels → 14 * (length labels + pageCount (length labels)) ≤ room
+        → last ≡ Accepted
+    room-enough w h = rw (le-ltb room (length (sheet lens labels)) (rw (sheet-long lens labels w) h), w .labels-within) (pass false Output refl)
+
+-- ---- where all is accepted
+module _ (lens : List ℕ) (labels : List ℤ) (room : ℕ) (h : checkSheet lens labels room ≡ Accepted) where
+  output-passed : (ltb room (length (sheet lens labels)) || not (allInColumn labels)) ≡ false
+  unfolding checkSheet
+  output-passed = passed _ Output (turn-first _ _ (turn-rest _ _ (turn-rest _ _ h)))
+
+  pub sheet-within : SheetWithin lens labels
+  unfolding checkSheet
+  sheet-within =
+      within lens labels (turn-first _ _ h) (turn-first _ _ (turn-rest _ _ h))
+      (not-false (allInColumn labels) (or-right (ltb room (length (sheet lens labels))) (not (allInColumn labels)) output-passed))
+
+  pub sheet-room : length (sheet lens labels) ≤ room
+  sheet-room = ltb-false room (length (sheet lens labels)) (or-left (ltb room (length (sheet lens labels))) (not (allInColumn labels)) output-passed)

@@ -1,0 +1,12 @@
+pub mod Digits
+pub mod Labels
+pub mod LinesFrom
+pub mod Within
+pub mod Pages
+pub mod EntryLines
+pub mod EntryPlaces
+pub mod LinePlaces
+pub mod Sizes
+pub mod Checked
+pub mod Laid
+pub mod Writing

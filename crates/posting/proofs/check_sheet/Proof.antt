@@ -1,0 +1,121 @@
+-- `posting::check_sheet` meets its contract.
+use mathlib.Core.Path.{sym, _∙_}
+use borrow.Author.Tests.{not-true, not-false}
+use Rattle.settings.specs.Checks.{inTurn}
+use Rattle.settings.proofs.Turns.{says, stops, goes-on, accepts, first-alone}
+use Rattle.checks.proofs.Lengths.{counts-few}
+use Rattle.posting.specs.Posted.{checkSheet}
+use Rattle.posting.proofs.Checked.{within, label-outside, room-short, room-enough}
+use borrow.Author.Needs.{needs}
+use Rattle.posting.proofs.check_sheet.Statement.{statement}
+use Rattle.posting.proofs.check_sheet.Tie as tie
+
+check-label-lengths-requires : tie.Need-check-label-lengths-requires
+check-label-lengths-requires c κs = search needs
+
+is-refused-requires : tie.Need-is-refused-requires
+is-refused-requires c κs = search needs
+
+returns : tie.Need-returns
+unfolding checkSheet inTurn
+returns c =
+    let after-is-refused = c .before in
+    let after-check-label-lengths = after-is-refused .before in
+    stops _ _ (after-check-label-lengths .check-label-lengths .ensures) (says (after-is-refused .is-refused .ensures) (c .if1 .taken))
+
+check-counts-requires : tie.Need-check-counts-requires
+check-counts-requires c κs = search needs
+
+is-refused-requires-2 : tie.Need-is-refused-requires-2
+is-refused-requires-2 c κs = search needs
+
+returns-2 : tie.Need-returns-2
+unfolding checkSheet inTurn
+returns-2 c =
+    let after-is-refused2 = c .before in
+    let after-check-counts = after-is-refused2 .before in
+    let at-if1 = after-check-counts .before in
+    let after-is-refused = at-if1 .before in
+    let after-check-label-lengths = after-is-refused .before in
+    goes-on _ _ (after-check-label-lengths .check-label-lengths .ensures) (says (after-is-refused .is-refused .ensures) (at-if1 .if1 .left))
+    (stops _ _ (after-check-counts .check-counts .ensures) (says (after-is-refused2 .is-refused2 .ensures) (c .if2 .taken)))
+
+all-in-column-requires : tie.Need-all-in-column-requires
+all-in-column-requires c κs = search needs
+
+returns-3 : tie.Need-returns-3
+unfolding checkSheet inTurn
+returns-3 c =
+    let after-all-in-column = c .before in
+    let at-if2 = after-all-in-column .before in
+    let after-is-refused2 = at-if2 .before in
+    let after-check-counts = after-is-refused2 .before in
+    let at-if1 = after-check-counts .before in
+    let after-is-refused = at-if1 .before in
+    let after-check-label-lengths = after-is-refused .before in
+    goes-on _ _ (after-check-label-lengths .check-label-lengths .ensures) (says (after-is-refused .is-refused .ensures) (at-if1 .if1 .left))
+    (goes-on _ _ (after-check-counts .check-counts .ensures) (says (after-is-refused2 .is-refused2 .ensures) (at-if2 .if2 .left))
+    (sym (first-alone _ ∙ label-outside _ _ _ (says (after-all-in-column .all-in-column .ensures) (not-true _ (c .if3 .taken))))))
+
+sheet-length-requires : tie.Need-sheet-length-requires
+sheet-length-requires c κs =
+    let at-if2 = c .before .before in
+    let after-is-refused2 = at-if2 .before in
+    let after-check-counts = after-is-refused2 .before in
+    counts-few _ _ _ (accepts (after-check-counts .check-counts .ensures) (says (after-is-refused2 .is-refused2 .ensures) (at-if2 .if2 .left))) .few-fixes
+
+returns-4 : tie.Need-returns-4
+unfolding checkSheet inTurn
+returns-4 c =
+    let after-sheet-length = c .before in
+    let at-if3 = after-sheet-length .before in
+    let after-all-in-column = at-if3 .before in
+    let at-if2 = after-all-in-column .before in
+    let after-is-refused2 = at-if2 .before in
+    let after-check-counts = after-is-refused2 .before in
+    let at-if1 = after-check-counts .before in
+    let after-is-refused = at-if1 .before in
+    let after-check-label-lengths = after-is-refused .before in
+    let lengths = after-check-label-lengths .check-label-lengths .ensures in
+    let lengths-passed = says (after-is-refused .is-refused .ensures) (at-if1 .if1 .left) in
+    let counts = after-check-counts .check-counts .ensures in
+    let counts-passed = says (after-is-refused2 .is-refused2 .ensures) (at-if2 .if2 .left) in
+    let all-within = within _ _ (accepts lengths lengths-passed) (accepts counts counts-passed) (says (after-all-in-column .all-in-column .ensures) (not-false _ (at-if3 .if3 .left))) in
+    goes-on _ _ lengths lengths-passed
+    (goes-on _ _ counts counts-passed (sym (first-alone _ ∙ room-short _ _ _ all-within (rw (after-sheet-length .sheet-length .ensures) at (c .if4 .taken)))))
+
+returns-5 : tie.Need-returns-5
+unfolding checkSheet inTurn
+returns-5 c =
+    let after-sheet-length = c .before in
+    let at-if3 = after-sheet-length .before in
+    let after-all-in-column = at-if3 .before in
+    let at-if2 = after-all-in-column .before in
+    let after-is-refused2 = at-if2 .before in
+    let after-check-counts = after-is-refused2 .before in
+    let at-if1 = after-check-counts .before in
+    let after-is-refused = at-if1 .before in
+    let after-check-label-lengths = after-is-refused .before in
+    let lengths = after-check-label-lengths .check-label-lengths .ensures in
+    let lengths-passed = says (after-is-refused .is-refused .ensures) (at-if1 .if1 .left) in
+    let counts = after-check-counts .check-counts .ensures in
+    let counts-passed = says (after-is-refused2 .is-refused2 .ensures) (at-if2 .if2 .left) in
+    let all-within = within _ _ (accepts lengths lengths-passed) (accepts counts counts-passed) (says (after-all-in-column .all-in-column .ensures) (not-false _ (at-if3 .if3 .left))) in
+    goes-on _ _ lengths lengths-passed
+    (goes-on _ _ counts counts-passed (sym (first-alone _ ∙ room-enough _ _ _ all-within (rw (after-sheet-length .sheet-length .ensures) at (c .if4 .left)))))
+
+pub check-sheet-spec : {M : Type 1} → statement M
+check-sheet-spec =
+    tie.close
+    (tie.spec
+    check-label-lengths-requires
+    is-refused-requires
+    returns
+    check-counts-requires
+    is-refused-requires-2
+    returns-2
+    all-in-column-requires
+    returns-3
+    sheet-length-requires
+    returns-4
+    returns-5)
