@@ -38,10 +38,6 @@ widest : entryLine (entry 255 65535 (pos 511)) ≡ bytes "255 65535 511\n"
 unfolding computed
 widest = refl
 
-no-fix : sheet (0 ∷ []) [] ≡ []
-unfolding computed
-no-fix = refl
-
 -- ---- pages
 
 zeros : ℕ → List ℕ
@@ -64,6 +60,11 @@ second-heading = refl
 sixty-first : lineAt 62 (zeros 61) ≡ bytes "  0    60   0\n"
 unfolding zeros bytes
 sixty-first = refl
+
+-- Without a fix there is no page.
+no-fix : sheet (0 ∷ []) [] ≡ []
+unfolding computed
+no-fix = refl
 
 -- ---- refusals
 
