@@ -3,17 +3,19 @@ use mathlib.Core.Path.{_≡_, refl}
 use mathlib.Core.Bool.{true, false, not, _||_}
 use mathlib.Core.List.{List}
 use Prim.Native.Nat.{ℕ, _+_, _*_, _≤_, _<_}
-use borrow.Author.Tests.{lt-ltb, le-ltb, ltb-false, not-false}
+use native.Mathlib.Omega.{arith}
+use borrow.Author.Tests.{lt-ltb, le-ltb, ltb-false, not-false, eq-eqb, ne-eqb}
 use lib.Dec.{ltb}
 use lib.IntN.{ℤ}
 use lib.ListN.{length}
-use Rattle.lists.proofs.Tests.{or-left, or-right, or-true}
+use Rattle.lists.proofs.Tests.{eqb-self, or-left, or-right, or-true}
 use Rattle.settings.specs.declared.refusal.Refusal.the-variants.{Output}
 use Rattle.settings.specs.declared.refusal.Checked.{Checked}
 use Rattle.settings.specs.declared.refusal.Checked.the-variants.{Accepted, Refused}
-use Rattle.settings.specs.Checks.{refuseIf}
+use Rattle.settings.specs.Checks.{refuseIf, firstOf, inTurn}
 use Rattle.settings.proofs.Turns.{refuse, pass, passed, turn-first, turn-rest}
-use Rattle.checks.specs.Tracks.{checkLabelLengths, checkCounts}
+use Rattle.trace.specs.Trace.{total}
+use Rattle.checks.specs.Tracks.{sameLengths, checkLengths, checkLabelLengths, checkCounts}
 use Rattle.checks.proofs.Lengths.{lengths-agree, counts-few}
 use Rattle.posting.specs.Sheet.{sheet, pageCount}
 use Rattle.posting.specs.Posted.{allInColumn, checkSheet}
@@ -43,6 +45,20 @@ module _ (lens : List ℕ) (labels : List ℤ) where
     pub room-enough : SheetWithin lens labels → 14 * (length labels + pageCount (length labels)) ≤ room
         → last ≡ Accepted
     room-enough w h = rw (le-ltb room (length (sheet lens labels)) (rw (sheet-long lens labels w) h), w .labels-within) (pass false Output refl)
+
+    -- Traces and labels within the limits, and room for the sheet, are enough.
+    pub sheet-given : 0 < length lens → SheetWithin lens labels → 14 * (length labels + pageCount (length labels)) ≤ room → checkSheet lens labels room ≡ Accepted
+    unfolding checkSheet checkLengths sameLengths checkCounts inTurn firstOf refuseIf
+    sheet-given some w h =
+        rw
+        (ne-eqb (length lens) 0 (λ e. omega arith),
+        eqb-self (length labels),
+        eq-eqb (total lens) (length labels) (w .sum),
+        le-ltb 256 (length lens) (w .few-traces),
+        le-ltb 65536 (length labels) (w .few-fixes),
+        le-ltb room (length (sheet lens labels)) (rw (sheet-long lens labels w) h),
+        w .labels-within)
+        refl
 
 -- ---- where all is accepted
 module _ (lens : List ℕ) (labels : List ℤ) (room : ℕ) (h : checkSheet lens labels room ≡ Accepted) where
