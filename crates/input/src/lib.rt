@@ -123,10 +123,7 @@ fn read_pieces(
 fn refuse_unread() -> Parsed
     ensures { λ q. ⌜ q ≡ Refused Text ⌝ }
 {
-    io::write_all(
-        STDERR_FILENO,
-        b"stops: the input could not be read to its end\n",
-    );
+    io::write_all(STDERR_FILENO, b"the input could not be read to its end\n");
     Parsed::Refused(Refusal::Text)
 }
 
