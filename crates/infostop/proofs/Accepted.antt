@@ -116,7 +116,7 @@ module _ (c : Config) (xs ys times : List Float) (marks lens : List ℕ) (labels
       let q = passed (checkTracks xs ys times marks lens labels cap floats words) _ (p .1) in
       record { config = p .0; tracks = q .0; fits = q .1 }
 
-  agreed : checkTracks xs ys times marks lens labels cap floats words ≡ Accepted → Agreed lens (length xs) (length ys) (length times) (length marks) labels
+  pub agreed : checkTracks xs ys times marks lens labels cap floats words ≡ Accepted → Agreed lens (length xs) (length ys) (length times) (length marks) labels
   unfolding checkTracks
   agreed e = lengths-agree lens (length xs) (length ys) (length times) (length marks) labels (turn-first (checkLengths lens (length xs) (length ys) (length times) (length marks) labels) _ e)
 

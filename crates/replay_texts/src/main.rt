@@ -2,10 +2,11 @@
 // Prints the answer to each, and an empty line.
 use libc::STDIN_FILENO;
 use libc::STDOUT_FILENO;
+use reply::Form;
 
 fn answer(text: &[u8]) {
     let mut out = [0u8; 49152];
-    let n = reply::reply(text, &mut out);
+    let n = reply::reply(Form::Lines, text, &mut out);
     io::write_all(STDOUT_FILENO, &out[0..n]);
 }
 

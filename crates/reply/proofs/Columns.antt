@@ -26,6 +26,7 @@ use Rattle.text.specs.Parsed.{tooMany, unlessMany, atMost768, parsed, into, wit
 use Rattle.text.specs.Pieces.{firstFixes}
 use Rattle.print.specs.Lines.{refusalText}
 use Rattle.print.specs.Written.{Writes}
+use Rattle.reply.specs.declared.Form.{Form}
 use Rattle.reply.specs.Program.{outcomeText, fixesText, readText, programText, freshColumns, FromText}
 use Rattle.reply.specs.Steps.{Room, fitText}
 
@@ -77,25 +78,25 @@ same-refusal e f q = cc
 same-input : (i j : Input) → Tracks i ≡ Tracks j → i ≡ j
 same-input i j q = cc
 
-many-text : (c : Config) (ls : List FixLine) (k : Checked) (e : Refusal) → tooMany k ≡ Refused e
-    → outcomeText (lengthsOf ls) (unlessRefused k (refused Counts)) ≡ refusalText e
+many-text : (form : Form) (ls : List FixLine) (k : Checked) (e : Refusal) → tooMany k ≡ Refused e
+    → outcomeText form (lengthsOf ls) (unlessRefused k (refused Counts)) ≡ refusalText e
 unfolding tooMany unlessRefused outcomeText
-many-text c ls checked.Accepted e q = ap refusalText (same-refusal Counts e q)
-many-text c ls (checked.Refused f) e q = ap refusalText (same-refusal f e q)
+many-text form ls checked.Accepted e q = ap refusalText (same-refusal Counts e q)
+many-text form ls (checked.Refused f) e q = ap refusalText (same-refusal f e q)
 
-refused-read : (q : Read) (e : Refusal) → parsed q ≡ Refused e → readText q ≡ refusalText e
+refused-read : (form : Form) (q : Read) (e : Refusal) → parsed q ≡ Refused e → readText form q ≡ refusalText e
 unfolding parsed atMost768 readText
-refused-read outside e p = ap refusalText (same-refusal Text e p)
-refused-read (inside c ls) e p = go (ltb 768 (length ls)) p
+refused-read form outside e p = ap refusalText (same-refusal Text e p)
+refused-read form (inside c ls) e p = go (ltb 768 (length ls)) p
   where
-    go : (b : Bool) → unlessMany b c (length ls) (length (lengthsOf ls)) ≡ Refused e → fixesText b c ls ≡ refusalText e
-    go true r = unfold unlessMany fixesText in many-text c ls (checkConfig c) e r
+    go : (b : Bool) → unlessMany b c (length ls) (length (lengthsOf ls)) ≡ Refused e → fixesText form b c ls ≡ refusalText e
+    go true r = unfold unlessMany fixesText in many-text form ls (checkConfig c) e r
     go false r = unfold unlessMany in not-both _ e r
 
 -- What the columns are for the fit.
 pub record Given (i : Input) (c : Columns) (q : Read) : Type 0 where
   pub room : Room i c
-  pub text : fitText i c ≡ readText q
+  pub text : (form : Form) → fitText form i c ≡ readText form q
 
 module _ (s : Config) (ls : List FixLine) (few : length ls ≤ 768) (c : Columns) (e : c ≡ withColumns freshColumns (firstFixes ls)) where
   abbrev input : Input
@@ -134,14 +135,14 @@ module _ (s : Config) (ls : List FixLine) (few : length ls ≤ 768) (c : Columns
           marks-room = omega (arith, m .1);
           lens-room = omega (arith, lengths .1, traces-few ls);
         };
-        text = rw (x .0, y .0, t .0, m .0, lengths .0, q) refl;
+        text = λ form. rw (x .0, y .0, t .0, m .0, lengths .0, q) refl;
       }
 
 module _ {t : List ℕ} {p : Parsed} {c : Columns} (r : FromText t p c) where
   -- A refusal is the program's.
-  pub refused-text : (e : Refusal) → p ≡ Refused e → programText t ≡ refusalText e
+  pub refused-text : (form : Form) (e : Refusal) → p ≡ Refused e → programText form t ≡ refusalText e
   unfolding programText
-  refused-text e q = refused-read (read t) e (sym (r .answer) ∙ q)
+  refused-text form e q = refused-read form (read t) e (sym (r .answer) ∙ q)
 
   -- Tracks are given to the fit as the text has them.
   pub tracks-text : (i : Input) → p ≡ Tracks i → Given i c (read t)
@@ -162,6 +163,6 @@ module _ {t : List ℕ} {p : Parsed} {c : Columns} (r : FromText t p c) where
               subst (λ (j : Input). Given j c (inside s ls)) (same-input (record { config = s; fixes = length ls; traces = length (lengthsOf ls) }) i v)
               (given s ls (ltb-false 768 (length ls) y) c (r .slices s ls e) false refl y)
 
-  pub program-is : (i : Input) → p ≡ Tracks i → fitText i c ≡ programText t
+  pub program-is : (form : Form) (i : Input) → p ≡ Tracks i → fitText form i c ≡ programText form t
   unfolding programText
-  program-is i q = tracks-text i q .text
+  program-is form i q = tracks-text i q .text form

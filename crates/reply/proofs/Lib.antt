@@ -1,3 +1,4 @@
 pub mod Columns
+pub mod FitWithin
 pub mod Answers
 pub mod Room

@@ -7,11 +7,30 @@ ghost use mathlib.Core.List.{List};
 ghost use Prim.Native.Nat.{ℕ};
 ghost use Rattle.text.specs.Values.{columns};
 ghost use Rattle.print.specs.Written.{Writes};
-ghost use Rattle.reply.specs.Program.{programText, FromText, Answers};
+ghost use Rattle.posting.specs.Steps.{SheetWithin};
+ghost use Rattle.reply.specs.Program.{labelsAs, programText, FromText, Answers};
 ghost use Rattle.reply.specs.Steps.{Room, fitText};
+
+// How labels are printed: a line for each fix, as the program `stops` does, or as a posting sheet, as the program `sheet` does.
+pub enum Form {
+    Lines,
+    Sheet,
+}
+
+// The labels in a form. That they fit the columns of a sheet is asked for in both.
+fn print_as(form: Form, lens: &[u32], labels: &[i32], out: &mut [u8]) -> usize
+    requires { ⌜ SheetWithin (now lens) (now labels) ⌝ }
+    ensures { λ r. ⌜ Writes (labelsAs form (now (lens .entry)) (now (labels .entry))) (now (out .entry)) r (now (out .exit)) ⌝ }
+{
+    match form {
+        Form::Lines => print::print_labels(lens, labels, out),
+        Form::Sheet => posting::write_sheet(lens, labels, out),
+    }
+}
 
 // The fit of the first fixes and traces of the columns, and its answer as a text.
 fn fit_text(
+    form: Form,
     input: Input,
     xs: &[f64],
     ys: &[f64],
@@ -22,7 +41,7 @@ fn fit_text(
 ) -> usize
     requires { ⌜ Room input (columns (now xs) (now ys) (now times) (now marks) (now lens)) ⌝ }
     ensures { λ r. ⌜
-        Writes (fitText input (columns (now (xs .entry)) (now (ys .entry)) (now (times .entry)) (now (marks .entry)) (now (lens .entry))))
+        Writes (fitText form input (columns (now (xs .entry)) (now (ys .entry)) (now (times .entry)) (now (marks .entry)) (now (lens .entry))))
         (now (out .entry)) r (now (out .exit)) ⌝ }
 {
     let n = input.fixes;
@@ -45,13 +64,14 @@ fn fit_text(
     );
     let a = f.answer;
     match a {
-        Answer::Labelled(_, _) => print::print_labels(&lens[0..k], &labels[0..n], out),
+        Answer::Labelled(_, _) => print_as(form, &lens[0..k], &labels[0..n], out),
         Answer::Refused(e) => print::print_refusal(e, out),
     }
 }
 
 // The answer to what was read, as a text.
 pub fn answer(
+    form: Form,
     p: Parsed,
     xs: &[f64],
     ys: &[f64],
@@ -62,18 +82,18 @@ pub fn answer(
 ) -> usize
     requires { ⌜ ((t : List ℕ) × FromText t p (columns (now xs) (now ys) (now times) (now marks) (now lens))) ⌝ }
     ensures { λ r. ⌜
-        Answers p (columns (now (xs .entry)) (now (ys .entry)) (now (times .entry)) (now (marks .entry)) (now (lens .entry)))
+        Answers form p (columns (now (xs .entry)) (now (ys .entry)) (now (times .entry)) (now (marks .entry)) (now (lens .entry)))
         (now (out .entry)) r (now (out .exit)) ⌝ }
 {
     match p {
         Parsed::Refused(e) => print::print_refusal(e, out),
-        Parsed::Tracks(input) => fit_text(input, xs, ys, times, marks, lens, out),
+        Parsed::Tracks(input) => fit_text(form, input, xs, ys, times, marks, lens, out),
     }
 }
 
 // The answer to a text.
-pub fn reply(text: &[u8], out: &mut [u8]) -> usize
-    ensures { λ r. ⌜ Writes (programText (now (text .entry))) (now (out .entry)) r (now (out .exit)) ⌝ }
+pub fn reply(form: Form, text: &[u8], out: &mut [u8]) -> usize
+    ensures { λ r. ⌜ Writes (programText form (now (text .entry))) (now (out .entry)) r (now (out .exit)) ⌝ }
 {
     let mut xs = [0.0; 768];
     let mut ys = [0.0; 768];
@@ -90,5 +110,5 @@ pub fn reply(text: &[u8], out: &mut [u8]) -> usize
         &mut lens,
     );
     let p = text::finish(r);
-    answer(p, &xs, &ys, &times, &marks, &lens, out)
+    answer(form, p, &xs, &ys, &times, &marks, &lens, out)
 }

@@ -22,7 +22,7 @@ part-write-all-start c = search needs
 part-write-all-end : tie.Need-part-write-all-end
 part-write-all-end c =
     let after-reply = c .before .before in
-    omega (arith, within _ _ _ _ (after-reply .reply .ensures), after-reply .reply .kept .1 .0, length-replicate {A = ℕ} 49152 0)
+    omega (arith, within _ _ _ _ (after-reply .reply .ensures), after-reply .reply .kept .1 .1 .0, length-replicate {A = ℕ} 49152 0)
 
 write-all-requires : tie.Need-write-all-requires
 write-all-requires c κs = search needs

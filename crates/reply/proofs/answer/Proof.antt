@@ -28,7 +28,7 @@ returns : tie.Need-returns
 returns c =
     let after-print-refusal = c .before .before in
     let at-p = after-print-refusal .before .before .before in
-    record { writes = λ f. writes-as (sym (refused-text f _ (at-p .p .given .1))) (after-print-refusal .print-refusal .ensures) }
+    record { writes = λ f. writes-as (sym (refused-text f _ _ (at-p .p .given .1))) (after-print-refusal .print-refusal .ensures) }
 
 same-length-2 : tie.Need-same-length-2
 same-length-2 c = search needs
@@ -37,7 +37,7 @@ returns-2 : tie.Need-returns-2
 returns-2 c =
     let after-fit-text = c .before .before in
     let at-p2 = after-fit-text .before .before .before in
-    record { writes = λ f. writes-as (program-is f _ (at-p2 .p2 .given .1)) (after-fit-text .fit-text .ensures) }
+    record { writes = λ f. writes-as (program-is f _ _ (at-p2 .p2 .given .1)) (after-fit-text .fit-text .ensures) }
 
 pub answer-spec : {M : Type 1} → statement M
 answer-spec =

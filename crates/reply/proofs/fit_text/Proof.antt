@@ -1,5 +1,5 @@
 -- `reply::fit_text` meets its contract.
-use Rattle.reply.proofs.Answers.{labels-room, refused-writes, labelled-writes}
+use Rattle.reply.proofs.Answers.{labels-room, refused-writes, labelled-within, labelled-writes}
 use borrow.Author.Needs.{needs}
 use Rattle.reply.proofs.fit_text.Statement.{statement}
 use Rattle.reply.proofs.fit_text.Tie as tie
@@ -73,32 +73,41 @@ fit-predict-many-requires c κs = search needs
 enum-told : tie.Need-enum-told
 enum-told c = search needs
 
-sub-print-labels : tie.Need-sub-print-labels
-sub-print-labels c = search needs
+sub-print-as : tie.Need-sub-print-as
+sub-print-as c = search needs
 
-part-print-labels-start : tie.Need-part-print-labels-start
-part-print-labels-start c = search needs
+part-print-as-start : tie.Need-part-print-as-start
+part-print-as-start c = search needs
 
-part-print-labels-end : tie.Need-part-print-labels-end
-part-print-labels-end c =
+part-print-as-end : tie.Need-part-print-as-end
+part-print-as-end c =
     let at-start = c .before .before .before .before .before .before .before .before .before .before .before .before .before .before .before .before .before .before .before .before .before .before in
     at-start .pre .lens-room
 
-sub-print-labels-2 : tie.Need-sub-print-labels-2
-sub-print-labels-2 c = search needs
+sub-print-as-2 : tie.Need-sub-print-as-2
+sub-print-as-2 c = search needs
 
-part-print-labels-start-2 : tie.Need-part-print-labels-start-2
-part-print-labels-start-2 c = search needs
+part-print-as-start-2 : tie.Need-part-print-as-start-2
+part-print-as-start-2 c = search needs
 
-part-print-labels-end-2 : tie.Need-part-print-labels-end-2
-part-print-labels-end-2 c =
+part-print-as-end-2 : tie.Need-part-print-as-end-2
+part-print-as-end-2 c =
     let after-fit-predict-many = c .before .before .before .before .before .before .before in
     let at-start = after-fit-predict-many .before .before .before .before .before .before .before .before .before .before .before .before .before .before .before .before .before in
     labels-room (at-start .args .input .fixes) (after-fit-predict-many .fit-predict-many .last .1 .1 .1 .1 .1 .1 .0) (at-start .pre .few-fixes)
     (after-fit-predict-many .fit-predict-many .kept .1 .1 .1 .1 .1 .1 .0)
 
-print-labels-requires : tie.Need-print-labels-requires
-print-labels-requires c κs = search needs
+print-as-requires : tie.Need-print-as-requires
+print-as-requires c κs =
+    let at-match = c .before .before .before .before in
+    let after-fit-predict-many = at-match .before .before .before .before .before in
+    let after-from-config = after-fit-predict-many .before .before .before .before .before .before .before .before .before .before in
+    let at-start = after-from-config .before .before .before .before .before .before .before in
+    let a = at-start .args in
+    labelled-within (a .input) (a .xs .now) (a .ys .now) (a .times .now) (a .marks .now) (a .lens .now) (at-start .pre .few-fixes)
+    (after-from-config .from-config .result) (after-from-config .from-config .ensures) (after-fit-predict-many .fit-predict-many .result)
+    (after-fit-predict-many .fit-predict-many .last .1 .1 .1 .1 .1 .1 .0) (after-fit-predict-many .fit-predict-many .ensures .ended)
+    (after-fit-predict-many .fit-predict-many .kept .1 .1 .1 .1 .1 .1 .0) _ _ (at-match .enum-told .given .1)
 
 enum-known-a : tie.Need-enum-known-a
 enum-known-a c = search needs
@@ -111,17 +120,17 @@ same-length c = search needs
 
 returns : tie.Need-returns
 returns c =
-    let after-print-labels = c .before .before in
-    let at-match = after-print-labels .before .before .before .before .before in
+    let after-print-as = c .before .before in
+    let at-match = after-print-as .before .before .before .before .before in
     let after-fit-predict-many = at-match .before .before .before .before .before in
     let after-from-config = after-fit-predict-many .before .before .before .before .before .before .before .before .before .before in
     let at-start = after-from-config .before .before .before .before .before .before .before in
     let a = at-start .args in
     labelled-writes (a .input) (a .xs .now) (a .ys .now) (a .times .now) (a .marks .now) (a .lens .now) (at-start .pre .few-fixes)
     (after-from-config .from-config .result) (after-from-config .from-config .ensures) (after-fit-predict-many .fit-predict-many .result)
-    (after-fit-predict-many .fit-predict-many .last .1 .1 .1 .1 .1 .1 .0) (after-fit-predict-many .fit-predict-many .ensures .ended) _ _ _
-    (after-fit-predict-many .fit-predict-many .kept .1 .1 .1 .1 .1 .1 .0) _ _ (at-match .enum-told .given .1)
-    (after-print-labels .print-labels .ensures)
+    (after-fit-predict-many .fit-predict-many .last .1 .1 .1 .1 .1 .1 .0) (after-fit-predict-many .fit-predict-many .ensures .ended)
+    (after-fit-predict-many .fit-predict-many .kept .1 .1 .1 .1 .1 .1 .0) _ _ (at-match .enum-told .given .1) (a .form)
+    (after-print-as .print-as .ensures)
 
 same-length-2 : tie.Need-same-length-2
 same-length-2 c = search needs
@@ -136,7 +145,7 @@ returns-2 c =
     let a = at-start .args in
     refused-writes (a .input) (a .xs .now) (a .ys .now) (a .times .now) (a .marks .now) (a .lens .now) (at-start .pre .few-fixes)
     (after-from-config .from-config .result) (after-from-config .from-config .ensures) (after-fit-predict-many .fit-predict-many .result)
-    (after-fit-predict-many .fit-predict-many .last .1 .1 .1 .1 .1 .1 .0) (after-fit-predict-many .fit-predict-many .ensures .ended) _ _ _ _
+    (after-fit-predict-many .fit-predict-many .last .1 .1 .1 .1 .1 .1 .0) (after-fit-predict-many .fit-predict-many .ensures .ended) (a .form) _
     (at-a .a .given .1) (after-print-refusal .print-refusal .ensures)
 
 pub fit-text-spec : {M : Type 1} → statement M
@@ -166,13 +175,13 @@ fit-text-spec =
     slice-aggregate-fit-predict-many-2
     fit-predict-many-requires
     enum-told
-    sub-print-labels
-    part-print-labels-start
-    part-print-labels-end
-    sub-print-labels-2
-    part-print-labels-start-2
-    part-print-labels-end-2
-    print-labels-requires
+    sub-print-as
+    part-print-as-start
+    part-print-as-end
+    sub-print-as-2
+    part-print-as-start-2
+    part-print-as-end-2
+    print-as-requires
     enum-known-a
     print-refusal-requires
     same-length

@@ -1,7 +1,5 @@
 -- `stops::main` hands the answer to what it heard, and nothing else, to `write_answer`.
-use mathlib.Core.Path.{sym, subst}
-use Rattle.lists.proofs.Parts.{lent-first}
-use Rattle.stops.specs.Answer.{Answer}
+use Rattle.program.proofs.Heard.{answer-part}
 use borrow.Author.Needs.{needs}
 use Rattle.stops.proofs.main.Statement.{statement}
 use Rattle.stops.proofs.main.Tie as tie
@@ -24,8 +22,7 @@ part-write-answer-end c = search needs
 write-answer-requires : tie.Need-write-answer-requires
 write-answer-requires c κs =
     let at-answer-input = c .before .before .before in
-    let a = at-answer-input .answer-input in
-    subst Answer (sym (lent-first (a .result) _)) (a .ensures .first)
+    answer-part (at-answer-input .answer-input .ensures)
 
 returns : tie.Need-returns
 returns c = search needs

@@ -1,9 +1,9 @@
--- `stops::answer_input` meets its contract.
+-- `program::answer_input` meets its contract.
 use Rattle.input.specs.Calls.{heard}
-use Rattle.stops.proofs.Heard.{textOf, heard-text, heard-answered}
+use Rattle.program.proofs.Heard.{textOf, heard-text, heard-answered}
 use borrow.Author.Needs.{needs}
-use Rattle.stops.proofs.answer_input.Statement.{statement}
-use Rattle.stops.proofs.answer_input.Tie as tie
+use Rattle.program.proofs.answer_input.Statement.{statement}
+use Rattle.program.proofs.answer_input.Tie as tie
 
 slice-aggregate-read-input : tie.Need-slice-aggregate-read-input
 slice-aggregate-read-input c = search needs
@@ -55,7 +55,7 @@ returns c =
     let u = after-read-input .read-input .ensures in
     let a = at-answer .answer in
     let long = at-start .pre in
-    heard-answered (u .0) _ _ _ (a .ensures .writes (heard-text (heard (u .0)) _ _ (u .1))) long (a .kept .1 .1 .1 .1 .1 .1 .0)
+    heard-answered (at-start .args .form) (u .0) _ _ _ (a .ensures .writes (heard-text (heard (u .0)) _ _ (u .1))) long (a .kept .1 .1 .1 .1 .1 .1 .1 .0)
 
 pub answer-input-spec : {M : Type 1} → statement M
 answer-input-spec =
