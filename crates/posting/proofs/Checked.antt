@@ -50,14 +50,15 @@ module _ (lens : List ℕ) (labels : List ℤ) where
     pub sheet-given : 0 < length lens → SheetWithin lens labels → 14 * (length labels + pageCount (length labels)) ≤ room → checkSheet lens labels room ≡ Accepted
     unfolding checkSheet checkLengths sameLengths checkCounts inTurn firstOf refuseIf
     sheet-given some w h =
-        rw
-        (ne-eqb (length lens) 0 (λ e. omega arith),
-        eqb-self (length labels),
-        eq-eqb (total lens) (length labels) (w .sum),
-        le-ltb 256 (length lens) (w .few-traces),
-        le-ltb 65536 (length labels) (w .few-fixes),
-        le-ltb room (length (sheet lens labels)) (rw (sheet-long lens labels w) h),
-        w .labels-within)
+        rw (
+          ne-eqb (length lens) 0 (λ e. omega arith),
+          eqb-self (length labels),
+          eq-eqb (total lens) (length labels) (w .sum),
+          le-ltb 256 (length lens) (w .few-traces),
+          le-ltb 65536 (length labels) (w .few-fixes),
+          le-ltb room (length (sheet lens labels)) (rw (sheet-long lens labels w) h),
+          w .labels-within,
+        )
         refl
 
 -- ---- where all is accepted

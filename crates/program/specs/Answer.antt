@@ -1,4 +1,4 @@
--- What a program prints for what it heard on standard input: `stops` in one form, `sheet` in the other (docs/RULES.md, "Program `stops`" and "Posting sheet").
+-- What a program prints for what it heard on standard input: `stops` in one form, `sheet` in the other (docs/RULES.md, "Program `stops`" and "Program `sheet`").
 use mathlib.Core.Path.{_≡_}
 use Prim.Native.Nat.{ℕ, _≤_}
 use mathlib.Core.List.{List}

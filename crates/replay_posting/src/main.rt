@@ -2,7 +2,8 @@
 // their lengths; the number of runs, and for each a count and a label + 2: the labels are the runs one behind the other. There is room for 257 traces,
 // 65,537 labels and 933,000 bytes of output, which are 7 before. Prints for each case the number and trace of the refusal, or `0 0`; how many bytes the
 // sheet has, 0 for a refusal; 1 where all of the output past them is as it was, else 0; and on the next line the part of the sheet that is asked for, as
-// far as the sheet goes. oracle/sheets writes the list, and works the answers out from the words of the request.
+// far as the sheet goes. oracle/sheets writes the list, and works the answers out from the words of docs/RULES.md,
+// "Posting sheet".
 use libc::STDIN_FILENO;
 use libc::STDOUT_FILENO;
 use posting::Posted;

@@ -1,9 +1,9 @@
--- The labels of an accepted fit stand within the columns of a posting sheet.
+-- The labels of an accepted fit stand within the columns of a posting sheet, so that their sheet is given wherever there is room for it.
 use mathlib.Core.Path.{_≡_, refl, sym, _∙_}
 use mathlib.Core.Bool.{true}
 use mathlib.Core.List.{List, [], _∷_}
 use mathlib.Core.Logic.{inl, inr}
-use Prim.Native.Nat.{ℕ, suc, _<_}
+use Prim.Native.Nat.{ℕ, suc, _+_, _*_, _≤_, _<_}
 use native.Mathlib.Omega.{arith}
 use borrow.Author.Tests.{le-leb}
 use lib.IntN.{ℤ}
@@ -11,8 +11,11 @@ use lib.ListN.{length, getD}
 use lib.Ieee.{Float}
 use Rattle.lists.specs.Lists.{minusOne}
 use Rattle.settings.specs.declared.config.Config.{Config}
-use Rattle.posting.specs.Posted.{inColumn, allInColumn}
+use Rattle.settings.specs.declared.refusal.Checked.the-variants.{Accepted}
+use Rattle.posting.specs.Sheet.{pageCount}
+use Rattle.posting.specs.Posted.{inColumn, allInColumn, checkSheet}
 use Rattle.posting.specs.Steps.{SheetWithin}
+use Rattle.posting.proofs.Checked.{sheet-given}
 use Rattle.cluster.proofs.LabelsBelow.{Below}
 use Rattle.infostop.specs.Fit.{Fitted, fitted, fit}
 use Rattle.infostop.proofs.Accepted.{accepted, agreed, counted, fit-labels}
@@ -40,3 +43,11 @@ fit-within c xs ys times marks lens labels cap floats words f e =
       sum = agreed c xs ys times marks lens labels cap floats words f t .sum ∙ sym all;
       labels-within = all-in-column (f .labels) (fit-labels-below c xs ys times marks lens labels cap floats words f e);
     }
+
+pub fit-sheet : (c : Config) (xs ys times : List Float) (marks lens : List ℕ) (labels cap floats words : ℕ) (f : Fitted)
+    → fit c xs ys times marks lens labels cap floats words ≡ fitted f → (room : ℕ) → 14 * (length (f .labels) + pageCount (length (f .labels))) ≤ room
+    → checkSheet lens (f .labels) room ≡ Accepted
+fit-sheet c xs ys times marks lens labels cap floats words f e room h =
+    let t = accepted c xs ys times marks lens labels cap floats words f e .tracks in
+    sheet-given lens (f .labels) room (agreed c xs ys times marks lens labels cap floats words f t .some-trace)
+    (fit-within c xs ys times marks lens labels cap floats words f e) h

@@ -1,5 +1,5 @@
--- The whole program, from the bytes of its input to those of its output: `stops` in one form, `sheet` in the other (docs/RULES.md, "Program `stops`" and
--- "Posting sheet").
+-- A whole program, from the bytes of its input to those of its output: `stops` in one form, `sheet` in the other (docs/RULES.md, "Program `stops`" and
+-- "Program `sheet`").
 use Prim.Native.Nat.{ℕ}
 use mathlib.Core.Bool.{Bool, true, false}
 use mathlib.Core.List.{List}
@@ -25,7 +25,7 @@ unfoldable pub labelsAs : Form → List ℕ → List ℤ → List ℕ
 labelsAs Lines lens labels = labelsText lens labels
 labelsAs Sheet lens labels = sheet lens labels
 
--- The labels, or the refusal, whose text is the same in both forms ("Program `stops`").
+-- The labels, or the refusal: "a refusal is written as `stops` writes it".
 unfoldable pub outcomeText : Form → List ℕ → Outcome → List ℕ
 outcomeText form lens (refused e) = refusalText e
 outcomeText form lens (fitted f) = labelsAs form lens (f .labels)
