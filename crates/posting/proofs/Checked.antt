@@ -1,5 +1,5 @@
 -- The check of a posting sheet: what it ensures where it accepts, and its last part as the code makes it.
-use mathlib.Core.Path.{_≡_, refl}
+use mathlib.Core.Path.{_≡_, refl, sym, _∙_}
 use mathlib.Core.Bool.{true, false, not, _||_}
 use mathlib.Core.List.{List}
 use Prim.Native.Nat.{ℕ, _+_, _*_, _≤_, _<_}
@@ -13,7 +13,7 @@ use Rattle.settings.specs.declared.refusal.Refusal.the-variants.{Output}
 use Rattle.settings.specs.declared.refusal.Checked.{Checked}
 use Rattle.settings.specs.declared.refusal.Checked.the-variants.{Accepted, Refused}
 use Rattle.settings.specs.Checks.{refuseIf, firstOf, inTurn}
-use Rattle.settings.proofs.Turns.{refuse, pass, passed, turn-first, turn-rest}
+use Rattle.settings.proofs.Turns.{refuse, pass, passed, first-alone, turn-first, turn-rest}
 use Rattle.trace.specs.Trace.{total}
 use Rattle.checks.specs.Tracks.{sameLengths, checkLengths, checkLabelLengths, checkCounts}
 use Rattle.checks.proofs.Lengths.{lengths-agree, counts-few}
@@ -34,6 +34,12 @@ module _ (lens : List ℕ) (labels : List ℤ) where
   module _ (room : ℕ) where
     abbrev last : Checked
     last = refuseIf (ltb room (length (sheet lens labels)) || not (allInColumn labels)) Output
+
+    -- Where lengths and counts are accepted it decides.
+    pub by-output : checkLabelLengths lens (length labels) ≡ Accepted → checkCounts (length lens) (length labels) 1 ≡ Accepted → {r : Checked} → last ≡ r
+        → r ≡ checkSheet lens labels room
+    unfolding checkSheet inTurn firstOf
+    by-output a b e = sym (rw (a, b) (first-alone last ∙ e))
 
     pub label-outside : allInColumn labels ≡ false → last ≡ Refused Output
     label-outside h = refuse _ Output (or-true (ltb room (length (sheet lens labels))) (not (allInColumn labels)) (rw h))

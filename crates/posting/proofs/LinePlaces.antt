@@ -4,7 +4,7 @@ use mathlib.Core.Bool.{Bool, true, false, cond}
 use mathlib.Core.List.{List, [], _∷_, _++_, flatten}
 use Prim.Native.Nat.{ℕ, zero, suc, _+_, _-_, _*_, _/_, _%_, _<_}
 use native.Mathlib.Omega.{arith}
-use borrow.Author.Tests.{eqb-true, eqb-false, eq-eqb, ne-eqb}
+use borrow.Author.Tests.{eqb-true, eqb-false}
 use lib.Dec.{eqb}
 use lib.ListN.{length, getD, take, drop, length-append, take-append-drop}
 use lib.Seq.{take-at, drop-append-add, getD-take, getD-drop, getD-at, getD-append-add, drop-cons, length-take-le}
@@ -13,7 +13,7 @@ use Rattle.lists.proofs.Items.{All, at-all}
 use Rattle.posting.specs.Sheet.{Entry, entryLine, heading, perPage}
 use Rattle.posting.specs.Meaning.{lineAt, lineOf}
 use Rattle.posting.specs.Steps.{linesAt, linesFrom}
-use Rattle.posting.proofs.LinesFrom.{lines-append}
+use Rattle.posting.proofs.LinesFrom.{lines-append, heads-page, in-page}
 use Rattle.posting.proofs.EntryPlaces.{Stands}
 use Rattle.posting.proofs.EntryLines.{Line, heading-line, entry-line}
 
@@ -51,14 +51,6 @@ lines-all i (e ∷ es) a = go (eqb (i % perPage) 0) (lines-all (suc i) es (a .1)
     go : (b : Bool) → All Line (linesFrom (suc i) es) → All Line (cond b (heading ∷ entryLine e ∷ []) (entryLine e ∷ []) ++ linesFrom (suc i) es)
     go true r = (heading-line, (one, r))
     go false r = (one, r)
-
-heads-page : (i : ℕ) (e : Entry) → i % perPage ≡ 0 → linesAt i e ≡ heading ∷ entryLine e ∷ []
-unfolding linesAt
-heads-page i e h = rw (eq-eqb (i % perPage) 0 h)
-
-in-page : (i : ℕ) (e : Entry) → (i % perPage ≡ 0 → ⊥) → linesAt i e ≡ entryLine e ∷ []
-unfolding linesAt
-in-page i e h = rw (ne-eqb (i % perPage) 0 h)
 
 -- As many as the fixes, and the pages that begin.
 pub lines-count : (i : ℕ) (es : List Entry) → length (linesFrom i es) + (i + 59) / perPage ≡ length es + (i + length es + 59) / perPage

@@ -31,13 +31,21 @@ lines-append i (x ∷ a) b =
 
 -- ---- one fix
 
+pub heads-page : (i : ℕ) (e : Entry) → i % perPage ≡ 0 → linesAt i e ≡ heading ∷ entryLine e ∷ []
+unfolding linesAt
+heads-page i e h = rw (eq-eqb (i % perPage) 0 h)
+
+pub in-page : (i : ℕ) (e : Entry) → (i % perPage ≡ 0 → ⊥) → linesAt i e ≡ entryLine e ∷ []
+unfolding linesAt
+in-page i e h = rw (ne-eqb (i % perPage) 0 h)
+
 pub first-of-page : (i : ℕ) (e : Entry) → i % perPage ≡ 0 → flatten (linesAt i e) ≡ heading ++ entryLine e
-unfolding linesAt flatten
-first-of-page i e h = rw (eq-eqb (i % perPage) 0 h) (ap (λ (s : List ℕ). heading ++ s) (append-nil (entryLine e)))
+unfolding flatten
+first-of-page i e h = ap flatten (heads-page i e h) ∙ ap (λ (s : List ℕ). heading ++ s) (append-nil (entryLine e))
 
 pub within-page : (i : ℕ) (e : Entry) → (i % perPage ≡ 0 → ⊥) → flatten (linesAt i e) ≡ entryLine e
-unfolding linesAt flatten
-within-page i e h = rw (ne-eqb (i % perPage) 0 h) (append-nil (entryLine e))
+unfolding flatten
+within-page i e h = ap flatten (in-page i e h) ∙ append-nil (entryLine e)
 
 -- ---- the fixes of a trace
 

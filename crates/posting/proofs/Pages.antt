@@ -3,28 +3,27 @@ use mathlib.Core.Path.{_≡_, refl, sym, ap, ap₂, _∙_}
 use mathlib.Core.List.{List, [], _∷_, _++_, map, flatten}
 use Prim.Native.Nat.{ℕ, zero, suc, _+_, _-_, _*_, _%_, _≤_, _<_}
 use native.Mathlib.Omega.{arith}
-use borrow.Author.Tests.{eq-eqb, ne-eqb}
 use lib.IntN.{ℤ}
 use lib.ListN.{length, take, drop, length-take, length-drop, take-append-drop}
 use lib.Seq.{drop-drop}
 use Rattle.lists.specs.Lists.{from, upto}
 use Rattle.posting.specs.Sheet.{Entry, entryLine, heading, page, perPage, pageCount, pages, entries, sheet}
-use Rattle.posting.specs.Steps.{linesAt, linesFrom}
-use Rattle.posting.proofs.LinesFrom.{flatten-append, lines-append}
+use Rattle.posting.specs.Steps.{linesFrom}
+use Rattle.posting.proofs.LinesFrom.{flatten-append, lines-append, heads-page, in-page}
 
 -- Fixes of which none is the first of a page, r fixes of their page being before them.
 no-heading : (i r : ℕ) (es : List Entry) → i % perPage ≡ r % perPage → 0 < r → r + length es ≤ perPage → linesFrom i es ≡ map entryLine es
-unfolding linesFrom linesAt
+unfolding linesFrom
 no-heading i r [] e h k = refl
 no-heading i r (x ∷ es) e h k =
-    rw (ne-eqb (i % perPage) 0 (λ q. omega arith)) (ap (λ (s : List (List ℕ)). entryLine x ∷ s) (no-heading (suc i) (suc r) es (omega arith) (omega arith) (omega arith)))
+    rw (in-page i x (λ q. omega arith)) (ap (λ (s : List (List ℕ)). entryLine x ∷ s) (no-heading (suc i) (suc r) es (omega arith) (omega arith) (omega arith)))
 
 -- The fixes of a page.
 one-page : (i : ℕ) (es : List Entry) → i % perPage ≡ 0 → 0 < length es → length es ≤ perPage → linesFrom i es ≡ heading ∷ map entryLine es
-unfolding linesFrom linesAt
+unfolding linesFrom
 one-page i [] h z k = absurd (omega arith)
 one-page i (x ∷ es) h z k =
-    rw (eq-eqb (i % perPage) 0 h) (ap (λ (s : List (List ℕ)). heading ∷ entryLine x ∷ s) (no-heading (suc i) 1 es (omega arith) (omega arith) (omega arith)))
+    rw (heads-page i x h) (ap (λ (s : List (List ℕ)). heading ∷ entryLine x ∷ s) (no-heading (suc i) 1 es (omega arith) (omega arith) (omega arith)))
 
 page-flat : (i : ℕ) (es : List Entry) → i % perPage ≡ 0 → 0 < length es → length es ≤ perPage → page es ≡ flatten (linesFrom i es)
 unfolding page flatten

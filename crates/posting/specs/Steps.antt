@@ -12,10 +12,11 @@ use Rattle.text.specs.Bytes.{space}
 use Rattle.posting.specs.Sheet.{Entry, entryLine, heading, perPage}
 use Rattle.posting.specs.Posted.{inColumn, allInColumn}
 
--- The last digit of n; a column in front of the last one, in which n is what the digits up to it write, has a space where that is 0.
+-- The last digit of n.
 abbrev pub lastDigit : ℕ → ℕ
 lastDigit n = 48 + n % 10
 
+-- What stands in a column in front of others, where n is the number up to this column: its last digit, or a space where there is none yet.
 unfoldable pub frontDigit : ℕ → ℕ
 frontDigit n = cond (eqb n 0) space (lastDigit n)
 

@@ -16,7 +16,7 @@ fn last_digit(n: u64) -> u8
     48 + (n % 10) as u8
 }
 
-// A digit that stands in front of others, or a space where n, all that is written up to it, is 0.
+// What stands in a column in front of others, n being the number up to this column: its last digit, or a space where there is none yet.
 fn front_digit(n: u64) -> u8
     ensures { λ r. ⌜ r ≡ frontDigit n ⌝ }
 {
