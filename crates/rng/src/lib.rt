@@ -29,7 +29,7 @@ pub fn gen_range(output: u64, len: usize) -> usize
     (output % (len as u64)) as usize
 }
 
-fn swap(s: &mut [u32], i: usize, j: usize)
+fn swap(s: &mut [u16], i: usize, j: usize)
     requires { ⌜ (i < length (now s)) × (j < length (now s)) ⌝ }
     ensures { λ _. ⌜ now (s .exit) ≡ swap (now (s .entry)) i j ⌝ }
 {
@@ -39,7 +39,7 @@ fn swap(s: &mut [u32], i: usize, j: usize)
 }
 
 // Shuffles from the last place down, and gives the generator's new state.
-pub fn shuffle(s: &mut [u32], rng: u64) -> u64
+fn shuffle(s: &mut [u16], rng: u64) -> u64
     ensures { λ r. ⌜ shuffle rng (now (s .entry)) ≡ record { list = now (s .exit); rng = r } ⌝ }
 {
     let mut x = rng;
@@ -64,11 +64,47 @@ pub fn fill(s: &mut [u32])
     }
 }
 
+// Writes 0, 1, 2, .. in 16 bits.
+fn fill_nodes(s: &mut [u16])
+    requires { ⌜ length (now s) ≤ 512 ⌝ }
+    ensures { λ _. ⌜ now (s .exit) ≡ upto (length (now (s .entry))) ⌝ }
+{
+    let mut i = 0;
+    while i < s.len() {
+        s[i] = i as u16;
+        i += 1;
+    }
+}
+
+// The order of visiting in 16 bits.
+fn draw_nodes(s: &mut [u16], rng: u64) -> u64
+    requires { ⌜ length (now s) ≤ 512 ⌝ }
+    ensures { λ r. ⌜ order rng (length (now (s .entry))) ≡ record { list = now (s .exit); rng = r } ⌝ }
+{
+    fill_nodes(s);
+    shuffle(s, rng)
+}
+
+// Writes the numbers of `from` in 32 bits.
+fn widen(to: &mut [u32], from: &[u16])
+    requires { ⌜ length (now to) ≡ length (now from) ⌝ }
+    ensures { λ _. ⌜ now (to .exit) ≡ now (from .entry) ⌝ }
+{
+    let mut i = 0;
+    while i < from.len() {
+        to[i] = from[i] as u32;
+        i += 1;
+    }
+}
+
 // Writes the order of visiting, and gives the generator's new state.
 pub fn draw_order(s: &mut [u32], rng: u64) -> u64
     requires { ⌜ length (now s) ≤ 512 ⌝ }
     ensures { λ r. ⌜ order rng (length (now (s .entry))) ≡ record { list = now (s .exit); rng = r } ⌝ }
 {
-    fill(s);
-    shuffle(s, rng)
+    let n = s.len();
+    let mut nodes = [0u16; 512];
+    let x = draw_nodes(&mut nodes[0..n], rng);
+    widen(s, &nodes[0..n]);
+    x
 }
