@@ -2,7 +2,6 @@
 pub mod cluster;
 pub mod config;
 pub mod distance;
-pub mod empty;
 pub mod error;
 pub mod fit;
 pub mod grid;

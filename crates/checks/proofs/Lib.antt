@@ -4,5 +4,3 @@ pub mod Lengths
 pub mod Usable
 pub mod Accepted
 pub mod Unread
-pub mod Recounted
-pub mod OnlyEmpty

@@ -5,7 +5,7 @@ use Rattle.std.specs.Float.Ieee.{of_int, of_bits, lt}
 use Rattle.float.specs.Binary64.{whole64, zero64, infinity64, finite}
 use Rattle.distance.specs.Limit.{in_limit, within}
 use Rattle.trace.specs.Trace.{fixes, timed, total, traces}
-use Rattle.settings.specs.declared.refusal.Refusal.TheVariants.{NoTrace, Lengths, Counts, Coordinate, Timestamp, PartlyTimed, TimeOrder, CoordinateSize, TimeMark}
+use Rattle.settings.specs.declared.refusal.Refusal.TheVariants.{NoTrace, Lengths, Coordinate, Timestamp, PartlyTimed, TimeOrder, CoordinateSize, TimeMark}
 use Rattle.settings.specs.declared.refusal.Checked.{Checked}
 use Rattle.settings.specs.declared.refusal.Checked.TheVariants.{Accepted, Refused}
 use Rattle.settings.specs.Checks.{refuse_if, first_of, in_turn, each_of, each_from}
@@ -62,7 +62,7 @@ first_far : check (w 0 ∷ w 1000000001 ∷ w 1000000001 ∷ []) (w 0 ∷ w 0 �
 unfolding check
 first_far = refl
 
--- 17 comes before 12
+-- 17 comes before 11, which an earlier trace has
 mark_first : check (nan ∷ []) (w 0 ∷ []) (2 ∷ []) (0 ∷ 1 ∷ []) ≡ Refused TimeMark
 unfolding check
 mark_first = refl
@@ -75,36 +75,3 @@ past_word = refl
 none : check [] [] [] [] ≡ Refused NoTrace
 unfolding check
 none = refl
-
--- ---- empty traces
-
--- (0,0) twice at times 9 and 10, with empty traces in front, two in a row behind it
-empty_around : check (w 0 ∷ w 0 ∷ []) (w 9 ∷ w 10 ∷ []) (1 ∷ 1 ∷ []) (0 ∷ 2 ∷ 0 ∷ 0 ∷ []) ≡ Accepted
-unfolding check
-empty_around = refl
-
--- A refusal's trace number counts the empty ones: 12, 15 and 16 of the trace behind two others, of which one or both are empty
-counted_12 : check (w 0 ∷ nan ∷ []) (w 0 ∷ w 0 ∷ []) (0 ∷ 0 ∷ []) (1 ∷ 0 ∷ 1 ∷ []) ≡ Refused (Coordinate 2)
-unfolding check
-counted_12 = refl
-
-counted_15 : check (w 0 ∷ w 0 ∷ []) (w 10 ∷ w 9 ∷ []) (1 ∷ 1 ∷ []) (0 ∷ 0 ∷ 2 ∷ []) ≡ Refused (TimeOrder 2)
-unfolding check
-counted_15 = refl
-
-counted_16 : check (w 0 ∷ w 1000000001 ∷ []) (w 0 ∷ w 0 ∷ []) (0 ∷ 0 ∷ []) (0 ∷ 1 ∷ 1 ∷ []) ≡ Refused (CoordinateSize 2)
-unfolding check
-counted_16 = refl
-
--- A list of only empty traces passes all checks; 7 is for no trace at all. They count for the limit of 256.
-only_empty : check [] [] [] (0 ∷ 0 ∷ []) ≡ Accepted
-unfolding check
-only_empty = refl
-
-most_empty : check [] [] [] (replicate 256 0) ≡ Accepted
-unfolding check
-most_empty = refl
-
-too_many_empty : check (w 0 ∷ []) (w 0 ∷ []) (0 ∷ []) (1 ∷ replicate 256 0) ≡ Refused Counts
-unfolding check
-too_many_empty = refl

@@ -1,5 +1,5 @@
 // The checks of tracks that come before a fit (docs/RULES.md, "When no labels are given"), in its order: 7, 8, 9, 10, 17; then trace by trace
-// 12 to 15; after all traces 16. A trace's number counts the empty ones.
+// 11 to 15; after all traces 16.
 pub mod fix;
 mod one_trace;
 pub mod slices;
@@ -13,7 +13,7 @@ ghost use Rattle.checks.specs.Tracks.{check_label_lengths, check_contents, check
 
 use settings::refusal::Checked;
 
-// 12 to 15, trace by trace.
+// 11 to 15, trace by trace.
 fn check_traces(xs: &[f64], ys: &[f64], times: &[f64], marks: &[u8], lens: &[u32]) -> Checked
     requires { (length ys.now ≡ length xs.now) × (length times.now ≡ length xs.now) × (length marks.now ≡ length xs.now) × (total lens.now ≡ length xs.now) }
     ensures { result ≡ each_from check_trace 0 (traces lens.now (fixes xs.now ys.now times.now marks.now)) }
@@ -57,7 +57,7 @@ fn check_sizes(xs: &[f64], ys: &[f64], lens: &[u32]) -> Checked
     Checked::Accepted
 }
 
-// 17, then 12 to 16: what the slices hold.
+// 17, then 11 to 16: what the slices hold.
 fn check_contents(xs: &[f64], ys: &[f64], times: &[f64], marks: &[u8], lens: &[u32]) -> Checked
     requires { (length ys.now ≡ length xs.now) × (length times.now ≡ length xs.now) × (length marks.now ≡ length xs.now) × (total lens.now ≡ length xs.now) }
     ensures { result ≡ check_contents xs.now ys.now times.now marks.now lens.now }

@@ -1,4 +1,4 @@
-// The checks of one trace, of number k: 12 to 16. An empty trace has none of them.
+// The checks of one trace, of number k: 11 to 16.
 ghost use Rattle.std.specs.Prelude.{◌≡◌, not, ◌&&◌, ◌<◌, length, get_or};
 ghost use Rattle.std.specs.Float.{nan};
 ghost use Rattle.trace.specs.Trace.{fixes, read_time};
@@ -102,11 +102,14 @@ fn check_times(k: usize, times: &[f64], marks: &[u8]) -> Checked
     Checked::Accepted
 }
 
-// 12 to 15.
+// 11 to 15.
 pub fn check_trace(k: usize, xs: &[f64], ys: &[f64], times: &[f64], marks: &[u8]) -> Checked
     requires { (length ys.now ≡ length xs.now) × (length times.now ≡ length xs.now) × (length marks.now ≡ length xs.now) }
     ensures { result ≡ check_trace k (fixes xs.now ys.now times.now marks.now) }
 {
+    if xs.len() == 0 {
+        return Checked::Refused(Refusal::EmptyTrace(k));
+    }
     let r = check_fixes(k, xs, ys, times, marks);
     if settings::refusal::is_refused(r) {
         return r;

@@ -9,4 +9,3 @@ pub mod Placed
 pub mod Ending
 pub mod Promises
 pub mod FittedModel
-pub mod WithoutEmpty

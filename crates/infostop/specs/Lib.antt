@@ -1,5 +1,4 @@
 pub mod Fit
-pub mod SameOutcome
 pub mod Demand
 pub mod Tries
 pub mod Facts

@@ -1,5 +1,5 @@
 -- What the sheet says where its check accepts: its length, its pages, and each line read back. So no two lists of labels give one sheet.
-use mathlib.Core.Path.{◌≡◌, refl, sym, ap, ◌∙◌, subst}
+use mathlib.Core.Path.{◌≡◌, refl, sym, ap, ◌∙◌}
 use mathlib.Core.List.{List, []}
 use mathlib.Core.Option.{some}
 use Prim.Native.Nat.{ℕ, ◌+◌, ◌*◌, ◌<◌}
@@ -68,18 +68,6 @@ sheet_tells lens a b m n p q e =
         let z = (laid lens b n q).lines t f x.there x.inside in
         let one : entry t f (get_or a i (pos 0)) ≡ entry t f (get_or b i (pos 0)) = cc in
         rw (← x.here) (ap (λ (r : Entry). r.label) one)
-
--- An empty trace has no line: a line of a fix reads back to a trace that has fixes.
-pub line_walked : (lens : List ℕ) (labels : List ℤ) (room : ℕ) → check_sheet lens labels room ≡ Accepted → (k : ℕ) → k < length labels → (e : Entry)
-    → read_entry (line_at (line_of k) (sheet lens labels)) ≡ some e → 0 < get_or lens e.trace 0
-line_walked lens labels room h k below e r =
-    let x = fix_at lens k (omega (arith, (sheet_within lens labels room h).sum)) in
-    let t = x.trace in
-    let read =
-    subst (λ (i : ℕ). read_entry (line_at (line_of i) (sheet lens labels)) ≡ some (entry t x.fix (get_or labels i (pos 0)))) x.here
-    ((laid lens labels room h).lines t x.fix x.there x.inside) in
-    let same : entry t x.fix (get_or labels k (pos 0)) ≡ e = cc in
-    subst (λ (s : Entry). 0 < get_or lens s.trace 0) same (omega (arith, x.inside))
 
 -- The lines stand in the order of the fixes.
 pub lines_rise : (i j : ℕ) → i < j → line_of i < line_of j

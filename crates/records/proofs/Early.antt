@@ -8,7 +8,7 @@ use lib.Ieee.{Float}
 use Rattle.trace.specs.Trace.{Fix, fixes, traces}
 use Rattle.settings.specs.declared.config.Config.{Config}
 use Rattle.settings.specs.declared.refusal.Refusal.{Refusal}
-use Rattle.settings.specs.declared.refusal.Refusal.TheVariants.{R1, R2, MinStayingTime, MaxTimeBetween, TimeBounds, MinSize, NoTrace, Lengths, Counts, Work, Coordinate, Timestamp, PartlyTimed, TimeOrder, CoordinateSize, TimeMark, MinSpatialResolution, ResolutionBounds}
+use Rattle.settings.specs.declared.refusal.Refusal.TheVariants.{R1, R2, MinStayingTime, MaxTimeBetween, TimeBounds, MinSize, NoTrace, Lengths, Counts, Work, EmptyTrace, Coordinate, Timestamp, PartlyTimed, TimeOrder, CoordinateSize, TimeMark, MinSpatialResolution, ResolutionBounds}
 use Rattle.settings.specs.declared.refusal.Checked.{Checked}
 use Rattle.settings.specs.declared.refusal.Checked.TheVariants.{Accepted, Refused}
 use Rattle.settings.specs.Refusals.{number_of}
@@ -56,8 +56,9 @@ early_from f h k (a ∷ l) = early_first (f k a) (each_from f (suc k) l) (h k a)
 early_trace : (k : ℕ) (t : List Fix) → early (check_trace k t) ≡ true
 unfolding check_trace check_times check_fix
 early_trace k t =
-    early_turn _ _ (early_each _ (λ f. early_turn _ _ (early_if _ (Coordinate k) refl) (early_turn _ _ (early_if _ (Timestamp k) refl) early_none)) t)
-    (early_turn _ _ (early_turn _ _ (early_if _ (PartlyTimed k) refl) (early_turn _ _ (early_if _ (TimeOrder k) refl) early_none)) early_none)
+    early_turn _ _ (early_if _ (EmptyTrace k) refl)
+    (early_turn _ _ (early_each _ (λ f. early_turn _ _ (early_if _ (Coordinate k) refl) (early_turn _ _ (early_if _ (Timestamp k) refl) early_none)) t)
+    (early_turn _ _ (early_turn _ _ (early_if _ (PartlyTimed k) refl) (early_turn _ _ (early_if _ (TimeOrder k) refl) early_none)) early_none))
 
 early_size : (k : ℕ) (t : List Fix) → early (check_size k t) ≡ true
 unfolding check_size check_fix_size

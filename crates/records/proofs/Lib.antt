@@ -2,10 +2,8 @@ pub mod Loan
 pub mod Steps
 pub mod Columns
 pub mod OpenTrace
-pub mod PassedOver
 pub mod Machine
 pub mod Judged
 pub mod Packing
 pub mod Early
 pub mod Fits
-pub mod WithoutEmpty

@@ -1,10 +1,13 @@
 -- The times of an open trace: what the machine keeps of the fixes so far gives with those to come what the checks of crate `checks` say of all.
 use mathlib.Core.Path.{◌≡◌, refl}
-use mathlib.Core.Bool.{false, not, ◌&&◌, and-true, and_assoc}
+use mathlib.Core.Bool.{true, false, not, ◌&&◌, and-true, and_assoc}
 use mathlib.Core.List.{List, [], ◌∷◌}
 use mathlib.Core.Option.{none}
-use Prim.Native.Nat.{ℕ}
+use Prim.Native.Nat.{ℕ, ◌<◌}
+use native.Mathlib.Omega.{arith}
+use borrow.Author.Tests.{ne_eqb}
 use lib.Dec.{eqb}
+use lib.ListN.{length}
 use Rattle.trace.specs.Trace.{Fix, time_of, timed}
 use Rattle.settings.specs.declared.refusal.Refusal.TheVariants.{PartlyTimed, TimeOrder}
 use Rattle.settings.specs.declared.refusal.Checked.{Checked}
@@ -15,7 +18,7 @@ use Rattle.settings.proofs.Turns.{first_alone}
 use Rattle.records.specs.declared.FixRecord.{FixRecord}
 use Rattle.records.specs.declared.judge.Times.{Times}
 use Rattle.records.specs.Records.{fix_of}
-use Rattle.records.specs.StepsJudge.{no_times, with_time, times_checked}
+use Rattle.records.specs.StepsJudge.{no_times, with_time, times_checked, next}
 
 -- 14 and 15 of a trace that has the times t already, and the fixes ts to come.
 unfoldable pub rest_times : ℕ → Times → List Fix → Checked
@@ -46,10 +49,10 @@ rest_fresh k ts = rw (untimed_first ts, first_alone (refuse_if (not (in_time_ord
     untimed_first [] = unfold above_first in refl
     untimed_first (u ∷ us) = unfold above_first above in refl
 
--- 12 to 15.
+-- 11 to 15 but for the length.
 unfoldable pub rest_trace : ℕ → Times → List Fix → Checked
 rest_trace k t ts = first_of (each_of (check_fix k) ts) (rest_times k t ts)
 
-pub trace_fresh : (k : ℕ) (ts : List Fix) → rest_trace k no_times ts ≡ check_trace k ts
+pub trace_fresh : (k : ℕ) (ts : List Fix) → 0 < length ts → rest_trace k no_times ts ≡ check_trace k ts
 unfolding rest_trace check_trace in_turn
-trace_fresh k ts = rw (rest_fresh k ts, first_alone (check_times k ts))
+trace_fresh k ts h = rw (ne_eqb (length ts) 0 (λ e. omega arith), rest_fresh k ts, first_alone (check_times k ts)) (unfold refuse_if first_of in refl)

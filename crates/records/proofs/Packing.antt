@@ -10,7 +10,7 @@ use lib.ListN.{length, take, get_or}
 use lib.Seq.{take_all}
 use Rattle.trace.specs.Trace.{Fix}
 use Rattle.settings.specs.declared.refusal.Refusal.{Refusal}
-use Rattle.settings.specs.declared.refusal.Refusal.TheVariants.{Coordinate, Timestamp, PartlyTimed, TimeOrder, CoordinateSize}
+use Rattle.settings.specs.declared.refusal.Refusal.TheVariants.{EmptyTrace, Coordinate, Timestamp, PartlyTimed, TimeOrder, CoordinateSize}
 use Rattle.settings.specs.declared.refusal.Checked.{Checked}
 use Rattle.settings.specs.declared.refusal.Checked.TheVariants.{Accepted, Refused}
 use Rattle.settings.specs.Checks.{refuse_if, first_of, in_turn}
@@ -20,7 +20,7 @@ use Rattle.records.specs.declared.judge.Times.{Times}
 use Rattle.records.specs.declared.judge.Judge.{Judge}
 use Rattle.records.specs.declared.packed.Packed.{Packed}
 use Rattle.records.specs.Records.{fix_of}
-use Rattle.records.specs.StepsJudge.{times_checked, first_with_fix, begun, opened, passed, ended, next, blank, started, stepped, run, number_in, trace_in, checked_of, packed, unpacked}
+use Rattle.records.specs.StepsJudge.{times_checked, begun, passed, ended, next, blank, started, stepped, run, number_in, trace_in, checked_of, packed, unpacked}
 use Rattle.records.specs.Steps.{no_record}
 
 -- A check's answer that number and trace tell.
@@ -50,6 +50,10 @@ module _ (k : ℕ) where
   unfolding Known checked_of check_fix_size
   known_size g = known_if _ (CoordinateSize k) refl
 
+  known_empty : (b : Bool) → Known (refuse_if b (EmptyTrace k))
+  unfolding Known checked_of
+  known_empty b = known_if b (EmptyTrace k) refl
+
 -- A state whose refusals number and trace tell.
 record Told (s : Judge) : Type 0 where
   pub first : Known s.first
@@ -60,13 +64,9 @@ unfolding packed unpacked Known
 back s h = ap₂ (λ (a b : Checked). record { marks = s.marks; first = a; far = b; trace = s.trace; left = s.left; times = s.times }) h.first h.far
 
 module _ (lens : List ℕ) where
-  told_opened : (k : ℕ) (s : Judge) → Told s → Told (opened lens k s)
-  unfolding opened begun
-  told_opened k s h = go (ltb (first_with_fix lens k) (length lens))
-    where
-      go : (b : Bool) → Told (cond b (begun (first_with_fix lens k) (get_or lens (first_with_fix lens k) 0) s) s)
-      go true = record { first = h.first; far = h.far }
-      go false = h
+  told_begun : (k n : ℕ) (s : Judge) → Told s → Told (begun k n s)
+  unfolding begun
+  told_begun k n s h = record { first = known_first _ _ h.first (known_empty k (eqb n 0)); far = h.far }
 
   told_ended : (s : Judge) → Told s → Told (ended s)
   unfolding ended
@@ -76,12 +76,20 @@ module _ (lens : List ℕ) where
   unfolding passed
   told_passed f s h = record { first = known_first _ _ h.first (known_fix s.trace (fix_of f)); far = known_first _ _ h.far (known_size s.trace (fix_of f)) }
 
+  told_next : (s : Judge) → Told s → Told (next lens s)
+  unfolding next
+  told_next s h = go (ltb (suc s.trace) (length lens))
+    where
+      go : (b : Bool) → Told (cond b (begun (suc s.trace) (get_or lens (suc s.trace) 0) s) s)
+      go true = told_begun _ _ s h
+      go false = h
+
   told_step : (s : Judge) (f : FixRecord) → Told s → Told (stepped lens s f)
   unfolding stepped
   told_step s f h = go (eqb (passed f s).left 0)
     where
       go : (b : Bool) → Told (cond b (next lens (ended (passed f s))) (passed f s))
-      go true = unfold next in told_opened _ _ (told_ended _ (told_passed f s h))
+      go true = told_next _ (told_ended _ (told_passed f s h))
       go false = told_passed f s h
 
   told_run : (fs : List FixRecord) (s : Judge) → Told s → Told (run lens s fs)
@@ -91,7 +99,7 @@ module _ (lens : List ℕ) where
 
   told_start : Told (started lens)
   unfolding started blank
-  told_start = told_opened 0 _ (record { first = unfold Known checked_of in refl; far = unfold Known checked_of in refl })
+  told_start = told_begun 0 (get_or lens 0 0) _ (record { first = unfold Known checked_of in refl; far = unfold Known checked_of in refl })
 
   -- One record more.
   run_more : (fs : List FixRecord) (s : Judge) (i : ℕ) → i < length fs → stepped lens (run lens s (take i fs)) (get_or fs i no_record) ≡ run lens s (take (suc i) fs)

@@ -1,11 +1,11 @@
 -- Serves the contracts of this crate's own functions; no public contract reaches it.
 -- The machine that judges records one by one, as the code does, and the verdict on them. proofs/Judged.antt joins it to the checks of crate
 -- `checks`. Definitions only.
-use Rattle.std.specs.Prelude.{ℕ, suc, ◌+◌, ◌-◌, true, ◌&&◌, not, cond, List, [], ◌∷◌, eqb, leb, ltb, length, drop, get_or}
+use Rattle.std.specs.Prelude.{ℕ, suc, ◌-◌, true, ◌&&◌, not, cond, List, [], ◌∷◌, eqb, leb, ltb, length, get_or}
 use Rattle.float.specs.Binary64.{zero64}
 use Rattle.trace.specs.Trace.{time_of, read_time}
 use Rattle.settings.specs.declared.config.Config.{Config}
-use Rattle.settings.specs.declared.refusal.Refusal.TheVariants.{Coordinate, Timestamp, PartlyTimed, TimeOrder, CoordinateSize, TimeMark}
+use Rattle.settings.specs.declared.refusal.Refusal.TheVariants.{EmptyTrace, Coordinate, Timestamp, PartlyTimed, TimeOrder, CoordinateSize, TimeMark}
 use Rattle.settings.specs.declared.refusal.Checked.{Checked}
 use Rattle.settings.specs.declared.refusal.Checked.TheVariants.{Accepted, Refused}
 use Rattle.settings.specs.Refusals.{number_of, trace_of}
@@ -42,22 +42,9 @@ times_checked k t = first_of (refuse_if (not t.timed && not t.untimed) (PartlyTi
 
 -- ---- the machine
 
--- How many empty traces stand in front of a list of lengths.
-unfoldable pub empty_front : List ℕ → ℕ
-empty_front [] = 0
-empty_front (n ∷ ns) = let r = suc (empty_front ns) in cond (eqb n 0) r 0
-
--- The first trace from k on that has a fix; where there is none, the number of traces, or k if that is above it.
-unfoldable pub first_with_fix : List ℕ → ℕ → ℕ
-first_with_fix lens k = k + empty_front (drop k lens)
-
--- Trace k of n fixes is opened.
+-- Trace k of n fixes is opened: 11.
 unfoldable pub begun : ℕ → ℕ → Judge → Judge
-begun k n s = record { marks = s.marks; first = s.first; far = s.far; trace = k; left = n; times = no_times }
-
--- The first trace from k on that has a fix is opened, where there is one.
-unfoldable pub opened : List ℕ → ℕ → Judge → Judge
-opened lens k s = let j = first_with_fix lens k in cond (ltb j (length lens)) (begun j (get_or lens j 0) s) s
+begun k n s = record { marks = s.marks; first = first_of s.first (refuse_if (eqb n 0) (EmptyTrace k)); far = s.far; trace = k; left = n; times = no_times }
 
 -- A fix of the open trace: 12, 13, and 16 apart.
 unfoldable pub passed : FixRecord → Judge → Judge
@@ -74,19 +61,19 @@ passed f s = record {
 unfoldable pub ended : Judge → Judge
 ended s = record { marks = s.marks; first = first_of s.first (times_checked s.trace s.times); far = s.far; trace = s.trace; left = s.left; times = s.times }
 
--- The trace after the open one that has a fix, where there is one.
+-- The trace after the open one, where there is one.
 unfoldable pub next : List ℕ → Judge → Judge
-next lens s = opened lens (suc s.trace) s
+next lens s = cond (ltb (suc s.trace) (length lens)) (begun (suc s.trace) (get_or lens (suc s.trace) 0) s) s
 
 -- Before the first record.
 unfoldable pub blank : Judge
 blank = record { marks = true; first = Accepted; far = Accepted; trace = 0; left = 0; times = no_times }
 
--- The first trace that has a fix is opened.
+-- The first trace is opened.
 unfoldable pub started : List ℕ → Judge
-started lens = opened lens 0 blank
+started lens = begun 0 (get_or lens 0 0) blank
 
--- One record: after the last of a trace the next one that has a fix is opened.
+-- One record: after the last of a trace the next one is opened.
 unfoldable pub stepped : List ℕ → Judge → FixRecord → Judge
 stepped lens s f = let t = passed f s in cond (eqb t.left 0) (next lens (ended t)) t
 
@@ -110,11 +97,12 @@ trace_in (Refused e) = trace_of e
 -- The refusals of a trace from their numbers.
 unfoldable pub checked_of : ℕ → ℕ → Checked
 checked_of n k =
-    cond (eqb n 12) (Refused (Coordinate k))
+    cond (eqb n 11) (Refused (EmptyTrace k))
+    (cond (eqb n 12) (Refused (Coordinate k))
     (cond (eqb n 13) (Refused (Timestamp k))
     (cond (eqb n 14) (Refused (PartlyTimed k))
     (cond (eqb n 15) (Refused (TimeOrder k))
-    (cond (eqb n 16) (Refused (CoordinateSize k)) Accepted))))
+    (cond (eqb n 16) (Refused (CoordinateSize k)) Accepted)))))
 
 -- Refusals by number and trace.
 unfoldable pub packed : Judge → Packed
@@ -135,7 +123,7 @@ unpacked p = record { marks = p.marks; first = checked_of p.first p.first_trace;
 
 -- ---- the verdict
 
--- 17, then 12 to 15, then 16.
+-- 17, then 11 to 15, then 16.
 unfoldable pub contents : Judge → Checked
 contents s = first_of (refuse_if (not s.marks) TimeMark) (first_of s.first s.far)
 

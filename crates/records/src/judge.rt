@@ -2,7 +2,7 @@
 ghost use Rattle.std.specs.Prelude.{◌≡◌, ◌&&◌, ◌-◌};
 ghost use Rattle.settings.specs.Checks.{refuse_if, first_of};
 ghost use Rattle.trace.specs.Trace.{read_time};
-ghost use Rattle.records.specs.StepsJudge.{no_times as Judge·noTimes, with_time, times_checked, first_with_fix, begun, opened, passed, ended, next as Judge·next, started, stepped, contents as Judge·contents};
+ghost use Rattle.records.specs.StepsJudge.{no_times as Judge·noTimes, with_time, times_checked, begun, passed, ended, next as Judge·next, started, stepped, contents as Judge·contents};
 
 use crate::FixRecord;
 use settings::refusal::{Checked, Refusal};
@@ -17,8 +17,8 @@ pub struct Times {
     pub time: f64,
 }
 
-// What the records so far say. marks: each mark is 0 or 1. first: the first refusal of 12 to 15. far: the first of 16. trace: the open
-// trace; empty ones are passed over, and counted in its number. left: how many of its fixes are still to come.
+// What the records so far say. marks: each mark is 0 or 1. first: the first refusal of 11 to 15. far: the first of 16. trace: the open
+// trace. left: how many of its fixes are still to come.
 #[derive(Drop)]
 pub struct Judge {
     pub marks: bool,
@@ -115,21 +115,7 @@ fn times_checked(k: usize, t: Times) -> Checked
     )
 }
 
-// The first trace from k on that has a fix; where there is none, the number of traces, or k if that is above it.
-fn first_with_fix(lens: &[u32], k: usize) -> usize
-    ensures { result ≡ first_with_fix lens.now k }
-{
-    let mut j = k;
-    while j < lens.len() {
-        if lens[j] != 0 {
-            return j;
-        }
-        j += 1;
-    }
-    j
-}
-
-// Trace k of n fixes is opened.
+// Trace k of n fixes is opened: 11.
 fn begin(s: Judge, k: usize, n: usize) -> Judge
     ensures { result ≡ begun k n s }
 {
@@ -137,23 +123,12 @@ fn begin(s: Judge, k: usize, n: usize) -> Judge
     let far = s.far;
     Judge {
         marks: s.marks,
-        first: first,
+        first: first_of(first, refuse_if(n == 0, Refusal::EmptyTrace(k))),
         far: far,
         trace: k,
         left: n,
         times: no_times(),
     }
-}
-
-// The first trace from k on that has a fix is opened, where there is one.
-fn open_from(s: Judge, k: usize, lens: &[u32]) -> Judge
-    ensures { result ≡ opened lens.now k s }
-{
-    let j = first_with_fix(lens, k);
-    if j < lens.len() {
-        return begin(s, j, lens[j] as usize);
-    }
-    s
 }
 
 // A fix of the open trace: 12, 13, and 16 apart.
@@ -195,13 +170,16 @@ fn end(s: Judge) -> Judge
     }
 }
 
-// The trace after the open one that has a fix, where there is one.
+// The trace after the open one, where there is one.
 fn next(s: Judge, lens: &[u32]) -> Judge
     ensures { result ≡ Judge·next lens.now s }
 {
     let k = s.trace;
     if k < lens.len() {
-        return open_from(s, k + 1, lens);
+        let j = k + 1;
+        if j < lens.len() {
+            return begin(s, j, lens[j] as usize);
+        }
     }
     s
 }
@@ -218,7 +196,10 @@ pub fn start(lens: &[u32]) -> Judge
         left: 0,
         times: no_times(),
     };
-    open_from(s, 0, lens)
+    if lens.len() == 0 {
+        return begin(s, 0, 0);
+    }
+    begin(s, 0, lens[0] as usize)
 }
 
 // One record.
@@ -232,7 +213,7 @@ pub fn step(s: Judge, f: FixRecord, lens: &[u32]) -> Judge
     t
 }
 
-// 17, then 12 to 15, then 16.
+// 17, then 11 to 15, then 16.
 pub fn contents(s: Judge) -> Checked
     ensures { result ≡ Judge·contents s }
 {

@@ -43,6 +43,7 @@ fn checked_of(number: u32, trace: usize) -> Checked
     ensures { result ≡ checked_of number trace }
 {
     match number {
+        11 => Checked::Refused(Refusal::EmptyTrace(trace)),
         12 => Checked::Refused(Refusal::Coordinate(trace)),
         13 => Checked::Refused(Refusal::Timestamp(trace)),
         14 => Checked::Refused(Refusal::PartlyTimed(trace)),

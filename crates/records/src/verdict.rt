@@ -1,4 +1,4 @@
-// The verdict on records, before anything is written: the settings and 7 to 10 by the lengths of the slices, 12 to 17 by what the machine says.
+// The verdict on records, before anything is written: the settings and 7 to 10 by the lengths of the slices, 11 to 17 by what the machine says.
 ghost use Rattle.std.specs.Prelude.{◌≡◌};
 ghost use Rattle.records.specs.Records.{work_floats};
 ghost use Rattle.records.specs.StepsJudge.{unpacked, checks_from, verdict_by};
@@ -28,7 +28,7 @@ fn work_floats(n: usize, columns: usize, marks: usize, floats: usize) -> usize
     floats
 }
 
-// The settings; 7 to 10 of n records and the lent slices, by their lengths; then 12 to 17, by what the machine says of the records.
+// The settings; 7 to 10 of n records and the lent slices, by their lengths; then 11 to 17, by what the machine says of the records.
 fn checks(
     model: Infostop,
     s: Judge,

@@ -11,4 +11,3 @@ pub mod Counted
 pub mod StayLabels
 pub mod OneTraces
 pub mod VisitReports
-pub mod EmptyTraces

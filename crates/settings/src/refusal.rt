@@ -1,4 +1,4 @@
-// Why no labels are given: a case for each cause, in the order of the rules' numbers. 11 has none: an empty trace is refused no more.
+// Why no labels are given: a case for each cause, in the order of the rules' numbers.
 ghost use Rattle.std.specs.Prelude.{◌≡◌};
 ghost use Rattle.settings.specs.Refusals.{number_of, trace_of};
 ghost use Rattle.settings.specs.Checks.{is_refused};
@@ -16,6 +16,7 @@ pub enum Refusal {
     Lengths,
     Counts,
     Work,
+    EmptyTrace(usize),
     Coordinate(usize),
     Timestamp(usize),
     PartlyTimed(usize),
@@ -53,6 +54,7 @@ pub fn number(e: Refusal) -> u32
         Refusal::Lengths => 8,
         Refusal::Counts => 9,
         Refusal::Work => 10,
+        Refusal::EmptyTrace(_) => 11,
         Refusal::Coordinate(_) => 12,
         Refusal::Timestamp(_) => 13,
         Refusal::PartlyTimed(_) => 14,
@@ -74,6 +76,7 @@ pub fn trace(e: Refusal) -> usize
     ensures { result ≡ trace_of e }
 {
     match e {
+        Refusal::EmptyTrace(k) => k,
         Refusal::Coordinate(k) => k,
         Refusal::Timestamp(k) => k,
         Refusal::PartlyTimed(k) => k,

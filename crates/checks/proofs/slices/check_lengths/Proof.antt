@@ -1,6 +1,5 @@
 -- `checks::slices::check_lengths` meets its contract.
 use borrow.Author.Tests.{eq-eqb, ne_eqb, not-true, not-false}
-use lib.ListN.{length}
 use Rattle.settings.specs.Checks.{refuse_if, first_of, in_turn}
 use Rattle.checks.specs.Tracks.{check_lengths}
 use Rattle.settings.proofs.Turns.{says}
@@ -10,9 +9,7 @@ use Rattle.checks.proofs.slices.check_lengths.Tie as tie
 
 returns : tie.Need-returns
 unfolding check_lengths in_turn first_of refuse_if
-returns c =
-    let at_start = c.before.before in
-    rw (eq-eqb (length at_start.args.lens.now) 0 c.if1.true)
+returns c = rw (eq-eqb _ 0 c.if1.true)
 
 same-lengths-requires : tie.Need-same-lengths-requires
 same-lengths-requires c κs = search rules

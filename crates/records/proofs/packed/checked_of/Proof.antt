@@ -26,8 +26,12 @@ returns-5 c = rw c.match.keys5
 
 returns-6 : tie.Need-returns-6
 unfolding checked_of
-returns-6 c = let h = c.match.rest in rw (ne_eqb _ 12 h.0.0.0.0.1, ne_eqb _ 13 h.0.0.0.1, ne_eqb _ 14 h.0.0.1, ne_eqb _ 15 h.0.1, ne_eqb _ 16 h.1)
+returns-6 c = rw c.match.keys6
+
+returns-7 : tie.Need-returns-7
+unfolding checked_of
+returns-7 c = let h = c.match.rest in rw (ne_eqb _ 11 h.0.0.0.0.0.1, ne_eqb _ 12 h.0.0.0.0.1, ne_eqb _ 13 h.0.0.0.1, ne_eqb _ 14 h.0.0.1, ne_eqb _ 15 h.0.1, ne_eqb _ 16 h.1)
 
 pub checked-of-spec : {M : Type 1} → statement M
 checked-of-spec =
-    tie.close (tie.spec returns returns-2 returns-3 returns-4 returns-5 returns-6)
+    tie.close (tie.spec returns returns-2 returns-3 returns-4 returns-5 returns-6 returns-7)

@@ -72,6 +72,9 @@ enum-told-22 c = search rules
 enum-told-23 : tie.Need-enum-told-23
 enum-told-23 c = search rules
 
+enum-told-24 : tie.Need-enum-told-24
+enum-told-24 c = search rules
+
 returns : tie.Need-returns
 returns c = rw c.enum_told.given.1
 
@@ -141,6 +144,9 @@ returns-22 c = rw c.enum-told22.given.1
 returns-23 : tie.Need-returns-23
 returns-23 c = rw c.enum-told23.given.1
 
+returns-24 : tie.Need-returns-24
+returns-24 c = rw c.enum-told24.given.1
+
 pub number-spec : {M : Type 1} → statement M
 number-spec =
     tie.close
@@ -168,6 +174,7 @@ number-spec =
     enum-told-21
     enum-told-22
     enum-told-23
+    enum-told-24
     returns
     returns-2
     returns-3
@@ -190,4 +197,5 @@ number-spec =
     returns-20
     returns-21
     returns-22
-    returns-23)
+    returns-23
+    returns-24)

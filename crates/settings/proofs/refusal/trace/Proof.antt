@@ -13,8 +13,7 @@ use Rattle.lists.specs.Lists.{member}
 use Rattle.lists.proofs.Tests.{or_left, or_right}
 use Rattle.settings.specs.Refusals.{trace_of}
 use Rattle.settings.specs.declared.refusal.Refusal.{Refusal}
-use Rattle.settings.specs.declared.refusal.Refusal.TheVariants.{R1, R2, MinStayingTime, MaxTimeBetween, TimeBounds, MinSize, NoTrace, Lengths, Counts, Work}
-use Rattle.settings.specs.declared.refusal.Refusal.TheVariants.{Coordinate, Timestamp, PartlyTimed, TimeOrder, CoordinateSize, TimeMark, NoStop, TooManyPlaces, NotFitted, Output, Text, MinSpatialResolution, ResolutionBounds}
+use Rattle.settings.specs.declared.refusal.Refusal.TheVariants.{R1, R2, MinStayingTime, MaxTimeBetween, TimeBounds, MinSize, NoTrace, Lengths, Counts, Work, EmptyTrace, Coordinate, Timestamp, PartlyTimed, TimeOrder, CoordinateSize, TimeMark, NoStop, TooManyPlaces, NotFitted, Output, Text, MinSpatialResolution, ResolutionBounds}
 use Rattle.settings.specs.contracts.refusal.Refusal.{the_type}
 use Rattle.settings.proofs.refusal.trace.Statement.{statement}
 use Rattle.settings.proofs.refusal.trace.Tie as tie
@@ -28,7 +27,7 @@ never (k ∷ j ∷ ns) n e (inr h) = never (j ∷ ns) n (or_right (eqb n k) (mem
 
 -- the cases without a trace, by position
 abbrev plain : List ℕ
-plain = 0 ∷ 1 ∷ 2 ∷ 3 ∷ 4 ∷ 5 ∷ 6 ∷ 7 ∷ 8 ∷ 9 ∷ 15 ∷ 16 ∷ 17 ∷ 18 ∷ 19 ∷ 20 ∷ 21 ∷ 22 ∷ []
+plain = 0 ∷ 1 ∷ 2 ∷ 3 ∷ 4 ∷ 5 ∷ 6 ∷ 7 ∷ 8 ∷ 9 ∷ 16 ∷ 17 ∷ 18 ∷ 19 ∷ 20 ∷ 21 ∷ 22 ∷ 23 ∷ []
 
 other : (e : Refusal) → OneOf plain (tag_of the_type e) → 0 ≡ trace_of e
 unfolding member
@@ -42,6 +41,7 @@ other NoTrace h = refl
 other Lengths h = refl
 other Counts h = refl
 other Work h = refl
+other (EmptyTrace k) h = absurd (never plain _ refl h)
 other (Coordinate k) h = absurd (never plain _ refl h)
 other (Timestamp k) h = absurd (never plain _ refl h)
 other (PartlyTimed k) h = absurd (never plain _ refl h)
@@ -71,6 +71,9 @@ enum-known-e-4 c = search rules
 enum-known-e-5 : tie.Need-enum-known-e-5
 enum-known-e-5 c = search rules
 
+enum-known-e-6 : tie.Need-enum-known-e-6
+enum-known-e-6 c = search rules
+
 returns : tie.Need-returns
 returns c = rw c.before.e.given.1
 
@@ -87,7 +90,10 @@ returns-5 : tie.Need-returns-5
 returns-5 c = rw c.before.e5.given.1
 
 returns-6 : tie.Need-returns-6
-returns-6 c = other c.before.args.e c.match.keys6
+returns-6 c = rw c.before.e6.given.1
+
+returns-7 : tie.Need-returns-7
+returns-7 c = other c.before.args.e c.match.keys7
 
 pub trace-spec : {M : Type 1} → statement M
 trace-spec =
@@ -98,9 +104,11 @@ trace-spec =
     enum-known-e-3
     enum-known-e-4
     enum-known-e-5
+    enum-known-e-6
     returns
     returns-2
     returns-3
     returns-4
     returns-5
-    returns-6)
+    returns-6
+    returns-7)
