@@ -28,7 +28,7 @@ def snake(name):
     if name in OWN:
         return OWN[name]
     name = name.replace("getD", "get_or")
-    if not re.search(r"[a-z0-9][A-Z]|[^\W_]-[^\W_]", name) or re.search(r"[^\w'-]", name):
+    if name[0].isdigit() or not re.search(r"[a-z0-9][A-Z]|[^\W_]-[^\W_]", name) or re.search(r"[^\w'-]", name):
         return name
     if not name[0].isupper():
         name = re.sub(r"(?<=[A-Za-z0-9])[A-Z](?=[a-z])|(?<=[a-z0-9])[A-Z]", lambda m: "_" + m.group(0).lower(), name).lower()

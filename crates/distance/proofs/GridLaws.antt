@@ -29,7 +29,7 @@ use Rattle.distance.proofs.Bound.{grid_limit, in_grid_limit}
 
 -- the finest step, 2^-10, and the coarsest, 10^6
 abbrev pub finest : Float
-finest = of_bits binary64 0x3_f50_0000_0000_0000
+finest = of_bits binary64 0x3F50_0000_0000_0000
 
 abbrev pub coarsest : Float
 coarsest = whole64 1000000

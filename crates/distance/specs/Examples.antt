@@ -20,15 +20,15 @@ unfolding computed
 half_up = refl
 
 -- On step 1, -0.3 becomes -0.0.
-minus_zero : on_grid one64 (of_bits binary64 0x_bfd3_3333_3333_3333) ≡ neg zero64
+minus_zero : on_grid one64 (of_bits binary64 0xBFD3_3333_3333_3333) ≡ neg zero64
 unfolding computed
 minus_zero = refl
 
 -- A step of 0.0 or -0.0 leaves -0.3 as it is.
-off : on_grid zero64 (of_bits binary64 0x_bfd3_3333_3333_3333) ≡ of_bits binary64 0x_bfd3_3333_3333_3333
+off : on_grid zero64 (of_bits binary64 0xBFD3_3333_3333_3333) ≡ of_bits binary64 0xBFD3_3333_3333_3333
 unfolding computed
 off = refl
 
-off_minus_zero : on_grid (neg zero64) (of_bits binary64 0x_bfd3_3333_3333_3333) ≡ of_bits binary64 0x_bfd3_3333_3333_3333
+off_minus_zero : on_grid (neg zero64) (of_bits binary64 0xBFD3_3333_3333_3333) ≡ of_bits binary64 0xBFD3_3333_3333_3333
 unfolding computed
 off_minus_zero = refl

@@ -23,16 +23,16 @@ abbrev pub zero64 : Float
 zero64 = of_bits binary64 0
 
 abbrev pub half64 : Float
-half64 = of_bits binary64 0x3_fe0_0000_0000_0000
+half64 = of_bits binary64 0x3FE0_0000_0000_0000
 
 abbrev pub one64 : Float
-one64 = of_bits binary64 0x3_ff0_0000_0000_0000
+one64 = of_bits binary64 0x3FF0_0000_0000_0000
 
 abbrev pub two64 : Float
 two64 = of_bits binary64 0x4000_0000_0000_0000
 
 abbrev pub infinity64 : Float
-infinity64 = of_bits binary64 0x7_ff0_0000_0000_0000
+infinity64 = of_bits binary64 0x7FF0_0000_0000_0000
 
 -- Neither NaN nor an infinity.
 unfoldable pub finite : Float → Bool

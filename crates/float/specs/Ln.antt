@@ -6,7 +6,7 @@ use Rattle.float.specs.Binary64.{add64, sub64, mul64, div64, whole64, zero64, on
 
 -- LN2, with bits 3FE62E42FEFA39EF.
 abbrev pub ln2 : Float
-ln2 = of_bits binary64 0x3_fe6_2_e42_fefa_39_ef
+ln2 = of_bits binary64 0x3FE6_2E42_FEFA_39EF
 
 -- The series: t = t * z + 1 / j for the i odd numbers j from 2i - 1 down to 1.
 unfoldable pub series : ℕ → Float → Float → Float

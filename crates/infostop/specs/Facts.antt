@@ -31,7 +31,7 @@ use Rattle.infostop.specs.Tries.{at, at_time, twice, fit_with, fit_of, number, l
 pub record NumberFacts : Type 0 where
   -- sqrt(25) = 5; sqrt(2) has bits 3FF6A09E667F3BCD.
   pub root_25 : root binary64 (of_bits binary64 0x4039_0000_0000_0000) ≡ of_bits binary64 0x4014_0000_0000_0000
-  pub root_2 : to_bits binary64 (root binary64 (of_bits binary64 0x4000_0000_0000_0000)) ≡ 0x3_ff6_a09_e_667_f_3_bcd
+  pub root_2 : to_bits binary64 (root binary64 (of_bits binary64 0x4000_0000_0000_0000)) ≡ 0x3FF6_A09E_667F_3BCD
   -- ln(1) = 0.
   pub ln_1 : ln one64 ≡ zero64
   -- From state 1 the generator gives 1082269761.
@@ -65,9 +65,9 @@ pub record TrackFacts : Type 0 where
 pub record GridFacts : Type 0 where
   -- With step 1: 2.5 gives 3, -2.5 gives -3, -0.3 gives -0.0, 0.49999999999999994 gives 0.0.
   pub half : on_grid one64 (of_bits binary64 0x4004_0000_0000_0000) ≡ whole64 3
-  pub minus_half : on_grid one64 (of_bits binary64 0x_c004_0000_0000_0000) ≡ neg (whole64 3)
-  pub minus_zero : on_grid one64 (of_bits binary64 0x_bfd3_3333_3333_3333) ≡ of_bits binary64 0x8000_0000_0000_0000
-  pub below_half : on_grid one64 (of_bits binary64 0x3_fdf_ffff_ffff_ffff) ≡ zero64
+  pub minus_half : on_grid one64 (of_bits binary64 0xC004_0000_0000_0000) ≡ neg (whole64 3)
+  pub minus_zero : on_grid one64 (of_bits binary64 0xBFD3_3333_3333_3333) ≡ of_bits binary64 0x8000_0000_0000_0000
+  pub below_half : on_grid one64 (of_bits binary64 0x3FDF_FFFF_FFFF_FFFF) ≡ zero64
   -- (8,0) twice; (10,0) twice, with step 7: one place, (7,0), with count 2, and all 0. With the grid off: two places.
   pub together : places_of (fit_with (with_step (whole64 7)) (twice (at 8 0) ∷ twice (at 10 0) ∷ [])) ≡ record { at = record { x = whole64 7; y = zero64 }; count = 2 } ∷ []
   pub one_label : result_of (fit_with (with_step (whole64 7)) (twice (at 8 0) ∷ twice (at 10 0) ∷ [])) ≡ labels (pos 0 ∷ pos 0 ∷ pos 0 ∷ pos 0 ∷ [])

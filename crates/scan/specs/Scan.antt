@@ -13,7 +13,7 @@ pub data Answer : Type 0 where
 
 -- The margin, 1e-15.
 abbrev pub margin : Float
-margin = of_bits binary64 0x3_cd2_03_af_9_ee7_5616
+margin = of_bits binary64 0x3CD2_03AF_9EE7_5616
 
 -- ---- the scan
 

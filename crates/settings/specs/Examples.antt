@@ -55,7 +55,7 @@ step_above_zero : step (of_bits binary64 1) ≡ Refused ResolutionBounds
 unfolding step
 step_above_zero = refl
 
-step_below_least : step (of_bits binary64 0x3_f4_f_ffff_ffff_ffff) ≡ Refused ResolutionBounds
+step_below_least : step (of_bits binary64 0x3F4F_FFFF_FFFF_FFFF) ≡ Refused ResolutionBounds
 unfolding step
 step_below_least = refl
 
@@ -67,7 +67,7 @@ step_largest : step (whole64 1000000) ≡ Accepted
 unfolding step
 step_largest = refl
 
-step_above_largest : step (of_bits binary64 0x412_e_8480_0000_0001) ≡ Refused ResolutionBounds
+step_above_largest : step (of_bits binary64 0x412E_8480_0000_0001) ≡ Refused ResolutionBounds
 unfolding step
 step_above_largest = refl
 

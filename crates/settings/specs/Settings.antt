@@ -24,7 +24,7 @@ check_time_bounds c =
 
 -- 2^-10.
 abbrev pub least : Float
-least = of_bits binary64 0x3_f50_0000_0000_0000
+least = of_bits binary64 0x3F50_0000_0000_0000
 
 -- "Not finite or below zero"; -0.0 is zero.
 unfoldable pub negative : Float → Bool
