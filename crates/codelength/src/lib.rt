@@ -1,6 +1,7 @@
 // The state of a partition with every sum made afresh, and its codelength.
 //
 // The slices are those of crate `map_state`.
+#![tactic(auto)]
 ghost use Rattle.std.specs.Prelude.{◌≡◌, ◌+◌, ◌-◌, ◌*◌, ◌<◌, cond, length, replicate};
 ghost use Rattle.float.specs.Binary64.{zero64};
 ghost use Rattle.map_state.specs.Steps.{net_of, Firsts, Sized, AtNode};
@@ -8,7 +9,7 @@ ghost use Rattle.codelength.specs.Codelength.{add_exit, exit_from, add_module, t
 ghost use Rattle.codelength.specs.Steps.{NodeAdded, SumsMade, StateMade, Listed, LengthMade};
 
 // Sums over the groups: q, plogp(q), and plogp(p + q) - plogp(q).
-#[derive(Drop)]
+#[derive(Clone, Copy)]
 pub struct Terms {
     pub q_exit: f64,
     pub sum_plogp_q: f64,

@@ -1,4 +1,5 @@
 // Points of the plane and their distance.
+#![tactic(auto)]
 ghost use Rattle.std.specs.Prelude.{◌≡◌};
 ghost use Rattle.distance.specs.Distance.{Measured};
 ghost use Rattle.distance.specs.Limit.{limit, within, in_limit};
@@ -6,7 +7,7 @@ ghost use Rattle.distance.specs.Limit.{limit, within, in_limit};
 pub mod grid;
 
 // A fix, a median or a place.
-#[derive(Drop)]
+#[derive(Clone, Copy)]
 pub struct Point {
     pub x: f64,
     pub y: f64,

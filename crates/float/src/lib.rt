@@ -1,4 +1,5 @@
 // Of an f64: the correctly rounded square root, the rules' stand-in for the natural logarithm, plogp, the finite test and, in `rounding`, the nearest whole number.
+#![tactic(auto)]
 ghost use Rattle.std.specs.Prelude.{◌≡◌, ◌+◌, ◌-◌, ◌*◌, ◌/◌, ◌^◌, ◌≤◌, ◌<◌, false};
 ghost use Rattle.std.specs.Float.{binary64};
 ghost use Rattle.std.specs.Float.Ieee.{of_bits};
@@ -10,7 +11,7 @@ ghost use Rattle.float.specs.Steps.{Unpacked, Normal, Even, Rooted, Squared};
 pub mod rounding;
 
 // The number m * 2^e.
-#[derive(Drop)]
+#[derive(Clone, Copy)]
 struct Scaled {
     m: u64,
     e: u64,
@@ -83,7 +84,7 @@ fn root_by_digits(m: u64) -> u64
 }
 
 // hi * 2^54 + lo.
-#[derive(Drop)]
+#[derive(Clone, Copy)]
 struct Wide {
     hi: u64,
     lo: u64,

@@ -2,6 +2,7 @@
 //
 // The slices are those of crate `map_state`; `best` holds the kept grouping. A `&mut` slice whose end a contract here does not state is work:
 // what it holds after the call is not read.
+#![tactic(auto)]
 ghost use Rattle.std.specs.Prelude.{◌≡◌, ◌+◌, ◌-◌, ◌*◌, ◌<◌, ◌≤◌, cond, length};
 ghost use Rattle.map_state.specs.Network.{network};
 ghost use Rattle.map_state.specs.Steps.{net_of, Rows};
@@ -9,7 +10,7 @@ ghost use Rattle.infomap.specs.Infomap.{mark_of, trial_mark, best_of_three, kept
 ghost use Rattle.infomap.specs.Steps.{grouping_of, KeepFrom, KeptOf, TrialsFrom, RunFrom};
 
 // The kept trial's last round moved nothing; it still did, as round 100; no trial was kept.
-#[derive(Drop)]
+#[derive(Clone, Copy)]
 pub enum Mark {
     Rest,
     Spent,
@@ -17,7 +18,7 @@ pub enum Mark {
 }
 
 // The mark of a run, the rounds of the kept trial and its codelength.
-#[derive(Drop)]
+#[derive(Clone, Copy)]
 pub struct Kept {
     pub mark: Mark,
     pub rounds: u32,

@@ -4,14 +4,14 @@ use infomap::Mark;
 use settings::refusal::Refusal;
 
 // The mark and the rounds of the kept trial, or the refusal.
-#[derive(Drop)]
+#[derive(Clone, Copy)]
 pub enum Answer {
     Labelled(Mark, u32),
     Refused(Refusal),
 }
 
 // The answer, and the model.
-#[derive(Drop)]
+#[derive(Clone, Copy)]
 pub struct Fit {
     pub answer: Answer,
     pub model: Infostop,

@@ -5,7 +5,7 @@ ghost use Rattle.infostop.specs.Models.{fresh_model, from_config};
 use settings::config::Config;
 use settings::refusal::Checked;
 
-#[derive(Drop)]
+#[derive(Clone, Copy)]
 pub struct Infostop {
     pub config: Config,
     pub xs: [f64; 512],
@@ -16,7 +16,7 @@ pub struct Infostop {
 }
 
 // The check of the settings, and a model. That of refused settings is of no use: a fit refuses it again, a report finds it not fitted.
-#[derive(Drop)]
+#[derive(Clone, Copy)]
 pub struct Made {
     pub checked: Checked,
     pub model: Infostop,

@@ -1,5 +1,6 @@
 // Standard input, read to its end in pieces of up to 65,536 bytes, whatever its length. A call of C's `read` that fails is not the end: the text is then
 // refused (22). No contract can name what C gave, so it is said of each call by itself (`take_piece`, exactly) and of the calls together (`read_input`).
+#![tactic(auto)]
 ghost use Rattle.std.specs.Prelude.{◌≡◌, List};
 ghost use Rattle.settings.specs.declared.refusal.Refusal.TheVariants.{Text};
 ghost use Rattle.text.specs.declared.Parsed.TheVariants.{Refused};
@@ -12,7 +13,7 @@ use settings::refusal::Refusal;
 use text::{Parsed, Reader};
 
 // What a call of `read` told: there may be more, the input has ended, or the call has failed.
-#[derive(Drop)]
+#[derive(Clone, Copy)]
 pub enum Next {
     More,
     End,
@@ -20,7 +21,7 @@ pub enum Next {
 }
 
 // What is read so far, and what the last call told.
-#[derive(Drop)]
+#[derive(Clone, Copy)]
 pub struct Piece {
     pub reader: Reader,
     pub next: Next,

@@ -3,6 +3,7 @@
 // The network is a table of weights with a stride, the nodes' `strength`, and `d`, which is D. A state stands in slices of one
 // element a node: `partition`, the internal number of the node's group; `first`, the lowest member of that group; `exits` and
 // `strengths`, a group's sums, at its lowest member.
+#![tactic(auto)]
 ghost use Rattle.std.specs.Prelude.{◌≡◌, ◌+◌, ◌-◌, ◌*◌, ◌<◌, ◌≤◌, cond, length, get_or, set, Float};
 ghost use Rattle.std.specs.Float.Ieee.{lt};
 ghost use Rattle.float.specs.Binary64.{add64, zero64};
@@ -11,7 +12,7 @@ ghost use Rattle.map_state.specs.MapState.{add_link, link_weights, lowest, count
 ghost use Rattle.map_state.specs.Steps.{net_of, state_of, Firsts, Rows, Rowed, first_after, Summed, AtNode, Renewed, MoveSums, MovedTo};
 
 // The weights from a node into its own group, into another, and elsewhere.
-#[derive(Drop)]
+#[derive(Clone, Copy)]
 pub struct Links {
     pub src: f64,
     pub dest: f64,
@@ -19,7 +20,7 @@ pub struct Links {
 }
 
 // A group's exit weight, its strength and the number of its nodes.
-#[derive(Drop)]
+#[derive(Clone, Copy)]
 pub struct ModuleStats {
     pub exit: f64,
     pub strength: f64,
@@ -27,7 +28,7 @@ pub struct ModuleStats {
 }
 
 // The two groups after a move, and the sum of the changes of their exit weights.
-#[derive(Drop)]
+#[derive(Clone, Copy)]
 pub struct Moved {
     pub src: ModuleStats,
     pub dest: ModuleStats,

@@ -7,7 +7,7 @@ ghost use Rattle.float.specs.Binary64.{same_bits};
 use distance::Point;
 
 // How many places there are, or that they are more than there is room for.
-#[derive(Drop)]
+#[derive(Clone, Copy)]
 pub enum PlaceCount {
     Places(usize),
     TooMany,

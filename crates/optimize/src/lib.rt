@@ -1,6 +1,7 @@
 // A trial: passes over an order of visiting, and rounds until one moves nothing, at most 100.
 //
 // The slices are those of crate `map_state`; `order` holds the round's order of visiting.
+#![tactic(auto)]
 ghost use Rattle.std.specs.Prelude.{◌≡◌, true, false, ◌+◌, ◌-◌, ◌<◌, length};
 ghost use Rattle.map_state.specs.Steps.{net_of, state_of, Sized, AtNode};
 ghost use Rattle.scan.specs.Steps.{answer_of, Testable};
@@ -10,14 +11,14 @@ ghost use Rattle.optimize.specs.Steps.{asked, pass_of, run_of, last_visits_from,
 use scan::Scan;
 
 // Q, and whether a node has changed its group.
-#[derive(Drop)]
+#[derive(Clone, Copy)]
 pub struct PassState {
     pub q: f64,
     pub moved: bool,
 }
 
 // Q, the generator's state, the rounds so far, and whether the last one moved something.
-#[derive(Drop)]
+#[derive(Clone, Copy)]
 pub struct RunState {
     pub q: f64,
     pub rng: u64,

@@ -1,4 +1,5 @@
 // The posting sheet (docs/RULES.md, "Posting sheet"): the labels of all fixes laid out as bytes, in pages of 60, into a lent slice.
+#![tactic(auto)]
 ghost use Rattle.std.specs.Prelude.{◌≡◌, ◌+◌, ◌*◌, ◌≤◌};
 ghost use Rattle.print.specs.Written.{Writes};
 ghost use Rattle.posting.specs.Sheet.{sheet as Sheet·sheet, page_count};
@@ -11,7 +12,7 @@ mod columns;
 mod lines;
 
 // What a call hands back: how many bytes the sheet has, or the refusal.
-#[derive(Drop)]
+#[derive(Clone, Copy)]
 pub enum Posted {
     Bytes(usize),
     Refused(Refusal),

@@ -1,5 +1,6 @@
 // What the programs `stops` and `sheet` share: standard input, read to its end whatever its length, is answered with the labels in the program's form or
 // with the refusal. A failed read is refused with 22, and a failed write is said on standard error.
+#![tactic(auto)]
 ghost use Rattle.std.specs.Prelude.{◌≡◌, length};
 ghost use Rattle.reply.specs.declared.Form.{Form as Form-as-Form};
 ghost use Rattle.program.specs.Answer.{Answer, Answered};

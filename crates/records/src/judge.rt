@@ -8,7 +8,7 @@ use crate::FixRecord;
 use settings::refusal::{Checked, Refusal};
 
 // The times of the open trace so far: whether all are there, none is, and each is at most the next; the last mark and time.
-#[derive(Drop)]
+#[derive(Clone, Copy)]
 pub struct Times {
     pub timed: bool,
     pub untimed: bool,
@@ -19,7 +19,7 @@ pub struct Times {
 
 // What the records so far say. marks: each mark is 0 or 1. first: the first refusal of 11 to 15. far: the first of 16. trace: the open
 // trace. left: how many of its fixes are still to come.
-#[derive(Drop)]
+#[derive(Clone, Copy)]
 pub struct Judge {
     pub marks: bool,
     pub first: Checked,

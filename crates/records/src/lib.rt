@@ -1,5 +1,6 @@
 // The fit over one lent slice of fix records. The records are judged first; those that pass all checks of tracks are taken apart into columns and
 // marks, two lent slices, which go to the fit over slices.
+#![tactic(auto)]
 ghost use Rattle.std.specs.Prelude.{◌≡◌};
 ghost use Rattle.infostop.specs.declared.answer.Answer.TheVariants as answer;
 ghost use Rattle.records.specs.Records.{RecordsFitted};
@@ -18,7 +19,7 @@ pub mod packed;
 pub mod verdict;
 
 // A fix: a point, and a time where the mark is 1. The time beside another mark is not looked at.
-#[derive(Drop)]
+#[derive(Clone, Copy)]
 pub struct FixRecord {
     pub at: Point,
     pub time: f64,

@@ -7,7 +7,7 @@ use crate::judge::{Judge, Times};
 use settings::refusal::{Checked, Refusal};
 
 // What `Judge` holds, a refusal by its number and its trace, 0 where there is none.
-#[derive(Drop)]
+#[derive(Clone, Copy)]
 pub struct Packed {
     pub marks: bool,
     pub first: u32,

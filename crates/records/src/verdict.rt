@@ -9,7 +9,7 @@ use infostop::model::Infostop;
 use settings::refusal::Checked;
 
 // The first refusal of the settings and of 7 to 17, and how many records are to be taken apart, none where there is one.
-#[derive(Drop)]
+#[derive(Clone, Copy)]
 pub struct Verdict {
     pub checked: Checked,
     pub fixes: usize,

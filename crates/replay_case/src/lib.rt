@@ -1,4 +1,5 @@
 // For the programs that run fits: settings, trace lengths and fixes, read from a list of unsigned decimal numbers, and a refusal printed.
+#![tactic(auto)]
 ghost use Rattle.std.specs.Prelude.{◌≡◌, ◌+◌, ◌≤◌, min, set};
 ghost use Rattle.std.specs.Float.{binary64};
 ghost use Rattle.std.specs.Float.Ieee.{of_bits};
@@ -10,7 +11,7 @@ use settings::config::Config;
 use settings::refusal::Refusal;
 
 // Settings, and the place after them.
-#[derive(Drop)]
+#[derive(Clone, Copy)]
 pub struct Settings {
     pub config: Config,
     pub next: usize,

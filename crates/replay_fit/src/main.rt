@@ -2,6 +2,7 @@
 // floats as their bits. Prints, for each, the number and trace of its refusal, or `0 0`, the label of each fix, the number of places, the bits
 // of each one's x and y with its label, the mark (0 rest, 1 spent, 2 none kept) and the rounds; then the number of labels, and the bits of the
 // x and y of each label's median, in rising label. There is room for 256 traces and 256 fixes.
+#![tactic(auto)]
 ghost use Rattle.std.specs.Prelude.{◌≤◌, length};
 
 use infomap::Mark;

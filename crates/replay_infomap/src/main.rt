@@ -1,5 +1,6 @@
 // Replays a list of cases `seed n k`, n up to 64, each followed by k links `a b w`, w as its bits. Prints the mark (0 rest,
 // 1 spent, 2 none kept), the rounds and the bits of the codelength, then each node's label.
+#![tactic(auto)]
 ghost use Rattle.std.specs.Prelude.{◌≤◌, length};
 ghost use Rattle.map_state.specs.Steps.{Rows};
 

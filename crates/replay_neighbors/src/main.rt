@@ -1,5 +1,6 @@
 // Replays a list of cases `r2 n`, then n times `x y`: medians in order, floats as their bits. Prints the places and their counts, the place
 // of each median, the links, read from the compacted table, and the nodes.
+#![tactic(auto)]
 ghost use Rattle.std.specs.Prelude.{◌*◌, ◌≤◌, length};
 
 use distance::Point;

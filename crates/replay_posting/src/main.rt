@@ -4,6 +4,7 @@
 // sheet has, 0 for a refusal; 1 where all of the output past them is as it was, else 0; and on the next line the part of the sheet that is asked for, as
 // far as the sheet goes. oracle/sheets writes the list, and works the answers out from the words of docs/RULES.md,
 // "Posting sheet".
+#![tactic(auto)]
 ghost use Rattle.std.specs.Prelude.{◌≡◌, length};
 
 use libc::{STDIN_FILENO, STDOUT_FILENO};
@@ -12,7 +13,7 @@ use posting::Posted;
 mod read;
 
 // The length of the output slice, and the part that is printed.
-#[derive(Drop)]
+#[derive(Clone, Copy)]
 pub struct Asked {
     pub room: usize,
     pub from: usize,

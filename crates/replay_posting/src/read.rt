@@ -1,7 +1,7 @@
 // The labels of a case, read as runs.
 
 // How many labels are read, and the place after them.
-#[derive(Drop)]
+#[derive(Clone, Copy)]
 pub struct Runs {
     pub count: usize,
     pub next: usize,

@@ -4,6 +4,7 @@
 // fit of two places with the same settings. Prints the number and trace of the refusal, or `0 0`; then 1 where it is as it was, else 0, of the labels,
 // the model, the work slices, the columns and the marks; where columns or marks are not, the columns' first 12 and the first 4 marks. The answers
 // of the list are written by hand from docs/RULES.md.
+#![tactic(auto)]
 ghost use Rattle.std.specs.Prelude.{◌≡◌, ◌≤◌, length};
 
 use distance::Point;
@@ -14,7 +15,7 @@ use records::FixRecord;
 use settings::config::Config;
 
 // Settings, `places`, the lengths of the slices lent, the number of traces, and the place after them.
-#[derive(Drop)]
+#[derive(Clone, Copy)]
 pub struct Case {
     pub config: Config,
     pub places: usize,

@@ -1,5 +1,6 @@
 // Replays a list of cases `r1 min_size min_staying_time max_time_between resolution n` and n times `x y mark time`, floats as their bits. Prints,
 // for each case, the stay number of each fix, the number of stays, and the bits of each stay's median on the grid.
+#![tactic(auto)]
 ghost use Rattle.std.specs.Prelude.{◌≡◌, length};
 ghost use Rattle.replay_stay.specs.Steps.{Room};
 
@@ -52,7 +53,7 @@ fn answer(
 }
 
 // The head of a case, and the place after it. Stays do not look at the settings that a case leaves out.
-#[derive(Drop)]
+#[derive(Clone, Copy)]
 pub struct Head {
     pub s: Config,
     pub fixes: usize,

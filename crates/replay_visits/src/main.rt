@@ -6,6 +6,7 @@
 // medians, and the trace view of the labels 0, 1, 2 and so on. A line is the number and trace of the refusal, or `0 0` and the number of items; then
 // the output arrays of 8 items, of which a part is lent, and which hold 7, or a float of bits 7, before; after the visits 1 where the work slices are as they were, else 0, and
 // 2 where they are free. The view is the number of the refusal, and the part.
+#![tactic(auto)]
 ghost use Rattle.std.specs.Prelude.{◌≤◌, length};
 ghost use Rattle.replay_visits.specs.Steps.{Columns, Within};
 

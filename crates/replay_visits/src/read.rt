@@ -4,7 +4,7 @@ ghost use Rattle.replay_visits.specs.Steps.{HeadRead};
 use settings::config::Config;
 
 // How many traces are fitted, how many fixes they have, the trace asked for, the length of the output slices, and which slice is short.
-#[derive(Drop)]
+#[derive(Clone, Copy)]
 pub struct Sizes {
     pub fitted: usize,
     pub until: usize,
@@ -14,7 +14,7 @@ pub struct Sizes {
 }
 
 // The settings of a case, its sizes and its number of traces, and the place after them.
-#[derive(Drop)]
+#[derive(Clone, Copy)]
 pub struct Head {
     pub config: Config,
     pub sizes: Sizes,

@@ -1,4 +1,5 @@
 // From a text in the house form to the text of the answer: parser, fit and printer together.
+#![tactic(auto)]
 ghost use Rattle.std.specs.Prelude.{List, ℕ};
 ghost use Rattle.text.specs.Values.{columns};
 ghost use Rattle.print.specs.Written.{Writes};
@@ -11,7 +12,7 @@ use infostop::model::Infostop;
 use text::{Input, Parsed};
 
 // How labels are printed: a line for each fix, as the program `stops` does, or as a posting sheet, as the program `sheet` does.
-#[derive(Drop)]
+#[derive(Clone, Copy)]
 pub enum Form {
     Lines,
     Sheet,

@@ -2,7 +2,7 @@
 use settings::refusal::Refusal;
 
 // How many items the report has, or the refusal.
-#[derive(Drop)]
+#[derive(Clone, Copy)]
 pub enum Reported {
     Count(usize),
     Refused(Refusal),

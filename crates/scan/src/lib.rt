@@ -1,6 +1,7 @@
 // The scan of a node: the best group among its neighbours', and the isolation test.
 //
 // The slices are those of crate `map_state`.
+#![tactic(auto)]
 ghost use Rattle.std.specs.Prelude.{◌≡◌, ◌+◌, ◌-◌, ◌*◌, ◌<◌, cond, ltb, length};
 ghost use Rattle.map_state.specs.Steps.{net_of, state_of, AtNode};
 ghost use Rattle.scan.specs.Scan.{best_delta, better, scan, highest_from, next_free_module, isolate};
@@ -9,7 +10,7 @@ ghost use Rattle.scan.specs.Steps.{answer_of, Next, AtPair, Considered, Testable
 use map_state::ModuleStats;
 
 // No move, or the group to move to and the change of codelength.
-#[derive(Drop)]
+#[derive(Clone, Copy)]
 pub enum Scan {
     Stay,
     Move(u32, f64),

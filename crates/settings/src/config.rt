@@ -4,7 +4,7 @@ ghost use Rattle.settings.specs.Settings.{unusable, negative, out_of_bounds, che
 
 use crate::refusal::{Checked, Refusal};
 
-#[derive(Drop)]
+#[derive(Clone, Copy)]
 pub struct Config {
     pub r1: f64,
     pub r2: f64,

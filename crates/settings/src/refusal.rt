@@ -4,7 +4,7 @@ ghost use Rattle.settings.specs.Refusals.{number_of, trace_of};
 ghost use Rattle.settings.specs.Checks.{is_refused};
 
 // Those about one trace carry its number.
-#[derive(Drop)]
+#[derive(Clone, Copy)]
 pub enum Refusal {
     R1,
     R2,
@@ -33,7 +33,7 @@ pub enum Refusal {
 }
 
 // What a check answers.
-#[derive(Drop)]
+#[derive(Clone, Copy)]
 pub enum Checked {
     Accepted,
     Refused(Refusal),

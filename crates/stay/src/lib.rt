@@ -1,4 +1,5 @@
 // Ordered insertion, the median, and the stays of one trace.
+#![tactic(auto)]
 pub mod all;
 
 ghost use Rattle.std.specs.Prelude.{◌≡◌, true, ◌++◌, ◌+◌, ◌<◌, ◌≤◌, length, take, drop};
@@ -14,7 +15,7 @@ use distance::Point;
 use settings::config::Config;
 
 // The open group: where it starts, and how many stays are before it.
-#[derive(Drop)]
+#[derive(Clone, Copy)]
 pub struct Open {
     pub start: usize,
     pub stays: usize,

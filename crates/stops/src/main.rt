@@ -1,4 +1,5 @@
 // The program `stops`: reads a text in the house form on standard input, and prints the labels, a line for each fix, or the refusal.
+#![tactic(auto)]
 use reply::Form;
 
 fn main() {

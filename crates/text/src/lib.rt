@@ -1,4 +1,5 @@
 // The house form of the program `stops` (docs/RULES.md, "Program `stops`"): a text is parsed into settings and tracks, whole or in pieces.
+#![tactic(auto)]
 ghost use Rattle.std.specs.Prelude.{◌≡◌};
 ghost use Rattle.text.specs.Values.{read, columns};
 ghost use Rattle.text.specs.Parsed.{too_many, at_most768, parsed, Parses};
@@ -16,7 +17,7 @@ mod slices;
 pub mod state;
 
 // What stands in a text beside the columns of its fixes: the settings, the number of fixes and of traces.
-#[derive(Drop)]
+#[derive(Clone, Copy)]
 pub struct Input {
     pub config: Config,
     pub fixes: usize,
@@ -24,14 +25,14 @@ pub struct Input {
 }
 
 // What parsing hands back.
-#[derive(Drop)]
+#[derive(Clone, Copy)]
 pub enum Parsed {
     Tracks(Input),
     Refused(Refusal),
 }
 
 // What is held between the pieces of a text: the state, and sizes and signs of the settings (0 to 6) and of the last fix line (7 to 10).
-#[derive(Drop)]
+#[derive(Clone, Copy)]
 pub struct Reader {
     pub state: State,
     pub sizes: [u64; 11],

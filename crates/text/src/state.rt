@@ -5,7 +5,7 @@ ghost use Rattle.text.specs.Machine.{initial as Machine·initial, refused as Mac
 // stage: 0 names of the settings, 1 settings, 2 names of a fix, 3 fixes, 4 not in the form. k: the byte of the names, or the field; the settings
 // are fields 0 to 6, a fix 7 to 10. minus, digit, value: of the field so far. fixes: their number, up to 769. traces: their number. len: the number of
 // fixes in the last trace.
-#[derive(Drop)]
+#[derive(Clone, Copy)]
 pub struct State {
     pub stage: u32,
     pub k: usize,

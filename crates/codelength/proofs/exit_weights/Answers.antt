@@ -1,0 +1,15 @@
+-- `codelength::exit_weights` meets its contract. The loop: what is left to add, added to the sum so far, is the whole sum.
+use mathlib.Core.Path.{refl, ◌∙◌}
+use Prim.Native.Nat.{◌-◌}
+use Rattle.codelength.proofs.Sums.{out_on, out_end}
+use Rattle.codelength.proofs.exit_weights.Goals as goal
+
+pub loop-v-init : goal.loop-v-init
+loop-v-init c = refl
+
+pub loop-v-preserved : goal.loop-v-preserved
+loop-v-preserved c =
+    out_on _ _ _ _ _ _ c.loop-v-test.true c.requires c.add_exit-a.ensures ∙ c.loop-v.invariant
+
+pub returns : goal.returns
+returns c = out_end _ _ _ _ _ c.loop-v-test.false ∙ c.loop-v.invariant

@@ -1,0 +1,17 @@
+-- `codelength::node_plogp_sum` meets its contract. The loop: what is left to add, added to the sum so far, is the whole sum.
+use mathlib.Core.Path.{refl, ◌∙◌, ap}
+use Prim.Native.Nat.{◌-◌}
+use lib.Ieee.{Float}
+use Rattle.float.specs.Binary64.{add64}
+use Rattle.codelength.proofs.Sums.{nodes_on, nodes_end}
+use Rattle.codelength.proofs.node_plogp_sum.Goals as goal
+
+pub loop-v-init : goal.loop-v-init
+loop-v-init c = refl
+
+pub loop-v-preserved : goal.loop-v-preserved
+loop-v-preserved c =
+    nodes_on _ _ _ _ _ c.loop-v-test.true (ap (λ (x : Float). add64 c.loop-v.a x) c.plogp-a.ensures) ∙ c.loop-v.invariant
+
+pub returns : goal.returns
+returns c = nodes_end _ _ _ _ c.loop-v-test.false ∙ c.loop-v.invariant

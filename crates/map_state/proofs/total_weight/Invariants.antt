@@ -1,0 +1,11 @@
+-- `map_state::total_weight` meets its contract. The loop: the links of the nodes from u on, added to the sum so far, give the total.
+use mathlib.Core.Path.{◌≡◌}
+use Prim.Native.Nat.{◌-◌}
+use Rattle.map_state.specs.Network.{total_from, total_weight}
+use Rattle.map_state.proofs.total_weight.Given as goal
+
+abbrev pub invariant-loop-u : goal.invariant-loop-u
+invariant-loop-u l = total_from l.table l.stride l.n l.t l.u (l.n - l.u) ≡ total_weight l.table l.stride l.n
+
+abbrev pub decreases-loop-u : goal.decreases-loop-u
+decreases-loop-u l = l.n - l.u

@@ -1,0 +1,60 @@
+-- `posting::lines::put_lines` meets its contract.
+use mathlib.Core.Path.{◌≡◌, refl, ap, ◌∙◌}
+use Prim.Native.Nat.{ℕ, ◌+◌, ◌-◌}
+use native.Mathlib.Nat.{add-sub_cancel_left}
+use native.Mathlib.Omega.{arith}
+use lib.ListN.{length, get_or, take, drop, length-take, length-drop}
+use lib.Seq.{length-take-le}
+use Rattle.posting.proofs.LinesFrom.{sheet_on, sheet_end, trace_fits, traces_left}
+use Rattle.posting.proofs.Within.{first_within, rest_within}
+use Rattle.posting.proofs.lines.put_lines.Goals as goal
+
+pub loop-t-init : goal.loop-t-init
+loop-t-init c =
+    (refl, omega (arith, c.requires.sum), refl)
+
+pub overflow_cast-end : goal.overflow_cast-end
+overflow_cast-end c =
+    omega (arith, c.shared_slice_known-in-loop-t-1.given c.loop-t.t)
+
+pub overflow_add-end : goal.overflow_add-end
+overflow_add-end c =
+    omega (arith, trace_fits _ _ _ _ c.loop-t-test.true c.loop-t.invariant.1)
+
+pub offset_bounds-labels-i : goal.offset_bounds-labels-i
+offset_bounds-labels-i c =
+    omega (arith, trace_fits _ _ _ _ c.loop-t-test.true c.loop-t.invariant.1)
+
+pub slice_bounds-put_trace-end : goal.slice_bounds-put_trace-end
+slice_bounds-put_trace-end c =
+    omega (arith, trace_fits _ _ _ _ c.loop-t-test.true c.loop-t.invariant.1)
+
+pub put_trace-k-requires : goal.put_trace-k-requires
+put_trace-k-requires c =
+    let labels = c.args.labels.now in
+    let i = c.loop-t.i in
+    let k = get_or c.args.lens.now c.loop-t.t 0 in
+    let fits = trace_fits _ _ _ _ c.loop-t-test.true c.loop-t.invariant.1 in
+    record {
+      few_traces = omega (arith, c.requires.few-traces, c.loop-t-test.true);
+      few_fixes = omega (arith, c.requires.few-fixes, length-take (i + k - i) (drop i labels), length-drop i labels);
+      labels_within = first_within (i + k - i) (drop i labels) (rest_within i labels c.requires.labels-within);
+    }
+
+pub loop-t-preserved : goal.loop-t-preserved
+loop-t-preserved c =
+    let lens = c.args.lens.now in
+    let labels = c.args.labels.now in
+    let t = c.loop-t.t in
+    let i = c.loop-t.i in
+    let k = get_or lens t 0 in
+    let fits = trace_fits _ _ _ _ c.loop-t-test.true c.loop-t.invariant.1 in
+    let long : length (take (i + k - i) (drop i labels)) ≡ k = length-take-le (i + k - i) (drop i labels) (omega (arith, fits, length-drop i labels)) ∙ add-sub_cancel_left i k in (
+      sheet_on _ _ lens labels t i (take (i + k - i) (drop i labels)) c.loop-t-test.true
+          (ap (λ (n : ℕ). take n (drop i labels)) (add-sub_cancel_left i k)) long c.put_trace-k.ensures c.loop-t.invariant.0,
+      traces_left _ _ _ _ c.loop-t-test.true c.loop-t.invariant.1,
+      c.put_trace-k.auto.out ∙ c.loop-t.invariant.2,
+    )
+
+pub returns : goal.returns
+returns c = sheet_end _ _ _ _ _ c.loop-t-test.false c.loop-t.invariant.0

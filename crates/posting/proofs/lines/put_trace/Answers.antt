@@ -1,0 +1,44 @@
+-- `posting::lines::put_trace` meets its contract.
+use mathlib.Core.Path.{◌≡◌, refl, ◌∙◌}
+use Prim.Native.Nat.{◌+◌, ◌-◌}
+use native.Mathlib.Omega.{arith}
+use lib.ListN.{get_or}
+use lib.IntN.{pos}
+use mir.Facts.{to_z-of_z}
+use mir.Syntax.{w32}
+use borrow.Author.Rules.{sfits_of}
+use Rattle.posting.proofs.LinesFrom.{trace_on, trace_end}
+use Rattle.posting.proofs.Within.{label_at}
+use Rattle.posting.proofs.lines.put_trace.Goals as goal
+
+pub loop-f-init : goal.loop-f-init
+loop-f-init c =
+    let i = c.args.i in
+    let e : i + 0 ≡ i = omega arith in
+    (rw e refl, refl)
+
+pub put_fix-k-requires : goal.put_fix-k-requires
+put_fix-k-requires c =
+    let labels = c.args.labels.now in
+    let f = c.loop-f.f in
+    rw (to_z-of_z {w = w32} {z = get_or labels f (pos 0)} (sfits_of c.put_fix-arg-in-loop-f-1.given))
+    record {
+      trace_within = c.requires.few-traces;
+      fix_within = omega (arith, c.requires.few-fixes, c.loop-f-test.true);
+      label_within = label_at labels f c.requires.labels-within c.loop-f-test.true;
+    }
+
+pub loop-f-preserved : goal.loop-f-preserved
+loop-f-preserved c =
+    (
+      trace_on _ _ _ _ _ _ c.loop-f-test.true
+          (rw
+          (to_z-of_z {w = w32} {z = get_or c.args.labels.now c.loop-f.f (pos 0)}
+          (sfits_of c.put_fix-arg-in-loop-f-1.given))
+          at c.put_fix-k.ensures)
+          c.loop-f.invariant.0,
+      c.put_fix-k.auto.out ∙ c.loop-f.invariant.1,
+    )
+
+pub returns : goal.returns
+returns c = trace_end _ _ _ _ _ c.loop-f-test.false c.loop-f.invariant.0

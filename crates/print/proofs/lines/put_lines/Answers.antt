@@ -1,0 +1,26 @@
+-- `print::lines::put_lines` meets its contract.
+use mathlib.Core.Path.{refl, ◌∙◌}
+use Prim.Native.Nat.{◌+◌, ◌-◌}
+use native.Mathlib.Omega.{arith}
+use Rattle.print.proofs.LabelLines.{lines_on, lines_end}
+use Rattle.print.proofs.lines.put_lines.Goals as goal
+
+pub loop-t-init : goal.loop-t-init
+loop-t-init c = (refl, omega arith, refl)
+
+pub overflow_cast-lens : goal.overflow_cast-lens
+overflow_cast-lens c =
+    omega (arith, c.shared_slice_known-in-loop-t-1.given c.loop-t.t)
+
+pub loop-t-preserved : goal.loop-t-preserved
+loop-t-preserved c =
+    (
+      lines_on _ _ c.args.lens.now c.args.labels.now c.loop-t.t c.loop-t.i c.least.result
+          (c.loop-t.i + c.least.result - c.loop-t.i) c.loop-t-test.true c.least.ensures
+          c.put_trace-k.ensures (omega arith) c.loop-t.invariant.0,
+      omega (arith, c.least.ensures),
+      c.put_trace-k.auto.out ∙ c.loop-t.invariant.2,
+    )
+
+pub returns : goal.returns
+returns c = lines_end _ _ _ _ c.loop-t-test.false c.loop-t.invariant.0

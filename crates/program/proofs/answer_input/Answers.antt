@@ -1,0 +1,16 @@
+-- `program::answer_input` meets its contract.
+use Rattle.input.specs.Calls.{heard}
+use Rattle.program.proofs.Heard.{text_of, heard_text, heard_answered}
+use Rattle.program.proofs.answer_input.Goals as goal
+
+pub answer-requires : goal.answer-requires
+answer-requires c =
+    let u = c.read_input-p.ensures in
+    (text_of (heard u.0), heard_text (heard u.0) _ _ u.1)
+
+pub returns : goal.returns
+returns c =
+    let u = c.read_input-p.ensures in
+    let a = c.answer in
+    let long = c.requires in
+    heard_answered c.args.form u.0 _ _ _ (a.ensures.writes (heard_text (heard u.0) _ _ u.1)) long a.auto.1.1.1.1.1.1.1.0

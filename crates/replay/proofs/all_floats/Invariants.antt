@@ -1,0 +1,12 @@
+-- `replay::all_floats` meets its contract: what is left decides.
+use mathlib.Core.Path.{◌≡◌}
+use Prim.Native.Nat.{◌-◌}
+use lib.ListN.{length, drop}
+use Rattle.replay.specs.Same.{all_floats}
+use Rattle.replay.proofs.all_floats.Given as goal
+
+abbrev pub invariant-loop-i : goal.invariant-loop-i
+invariant-loop-i l = all_floats l.x (drop l.i l.s) ≡ all_floats l.x l.s
+
+abbrev pub decreases-loop-i : goal.decreases-loop-i
+decreases-loop-i l = length l.s - l.i

@@ -1,0 +1,12 @@
+-- `replay::room` meets its contract.
+use mathlib.Core.Path.{◌≡◌, refl, sym}
+use Prim.Native.Nat.{ℕ}
+use lib.ListN.{length, replicate, length-replicate}
+use Rattle.replay.proofs.room.Goals as goal
+
+-- at a number that is not given: a list of 1,000,000 is not to be computed
+long : (n : ℕ) → n ≡ length {A = ℕ} (replicate n 0)
+long n = sym (length-replicate n 0)
+
+pub returns : goal.returns
+returns c = (long 1000000, refl)
