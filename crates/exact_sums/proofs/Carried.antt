@@ -153,12 +153,12 @@ module _ (net : Network) (w : ℕ → ℕ → ℕ) (ww : WholeWeights net w) (s 
   some_stats : (x : ℕ) → lowest x after < length after → Dec (x ≡ h) → Dec (x ≡ g) → stats_at after next.exits next.strengths x ≡ whole_stats w after x
   unfolding apply_move
   some_stats x p (yes e) f = subst (λ (z : ℕ). stats_at after next.exits next.strengths z ≡ whole_stats w after z) (sym e) (unfold stats_at in stats_path
-      (groups.exit-to net s u h hu d' c.long_e c.long_s ∙ dest_exit) (groups.strength-to net s u h hu d' c.long_e c.long_s ∙ dest_strength) refl)
+      (groups.exit_to net s u h hu d' c.long_e c.long_s ∙ dest_exit) (groups.strength_to net s u h hu d' c.long_e c.long_s ∙ dest_strength) refl)
   some_stats x p (no e) (yes f) = subst (λ (z : ℕ). lowest z after < length after → stats_at after next.exits next.strengths z ≡ whole_stats w after z) (sym f)
-      (λ q. unfold stats_at in stats_path (groups.exit-from net s u h hu d' c.long_e c.long_s q ∙ src_exit) (groups.strength-from net s u h hu d' c.long_e c.long_s q ∙ src_strength) refl) p
+      (λ q. unfold stats_at in stats_path (groups.exit_from net s u h hu d' c.long_e c.long_s q ∙ src_exit) (groups.strength_from net s u h hu d' c.long_e c.long_s q ∙ src_strength) refl) p
   some_stats x p (no e) (no f) = unfold stats_at in stats_path
-      (groups.exit-other net s u h hu d' c.long_e c.long_s x f e p ∙ ap (λ (m : ModuleStats). m.exit) (c.stats x) ∙ ap whole64 (sym (exit_other w part both none u h hu d x f e)))
-      (groups.strength-other net s u h hu d' c.long_e c.long_s x f e p ∙ ap (λ (m : ModuleStats). m.strength) (c.stats x) ∙ ap whole64 (sym (strength_other w part both none u h hu d x f e))) refl
+      (groups.exit_other net s u h hu d' c.long_e c.long_s x f e p ∙ ap (λ (m : ModuleStats). m.exit) (c.stats x) ∙ ap whole64 (sym (exit_other w part both none u h hu d x f e)))
+      (groups.strength_other net s u h hu d' c.long_e c.long_s x f e p ∙ ap (λ (m : ModuleStats). m.strength) (c.stats x) ∙ ap whole64 (sym (strength_other w part both none u h hu d x f e))) refl
 
   all_stats : (x : ℕ) → Dec (lowest x after < length after) → stats_at after next.exits next.strengths x ≡ whole_stats w after x
   all_stats x (yes p) = some_stats x p (ℕ_discrete x h) (ℕ_discrete x g)
@@ -193,6 +193,6 @@ change_afresh net w ww s c u h = λ i. delta_from net s.partition (same_q i) u h
     stats x = c.stats x ∙ sym (f.stats x)
 
     same_q : s.q_sum ≡ (from_partition net s.partition).q_sum
-    same_q = c.q ∙ groups.sumQ-ext net.d s.partition s.exits (from_partition net s.partition).exits
+    same_q = c.q ∙ groups.sum_q_ext net.d s.partition s.exits (from_partition net s.partition).exits
         (λ i h l. exit_at w s.partition s.exits s.strengths c.long_e c.stats i h l
         ∙ sym (exit_at w s.partition (from_partition net s.partition).exits (from_partition net s.partition).strengths f.long_e f.stats i h l))

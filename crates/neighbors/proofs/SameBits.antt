@@ -9,7 +9,6 @@ use Rattle.float.specs.Binary64.{same_bits}
 use Rattle.float.proofs.SameBits.{bits_same, same_bits_refl}
 use Rattle.neighbors.specs.Places.{same_place}
 -- Named so that the example is checked before these lemmas.
-use Rattle.neighbors.specs.Examples
 use Rattle.distance.specs.declared.Point.{Point}
 
 -- A NaN has the pattern of a NaN alone.

@@ -23,7 +23,7 @@ lowest_from i zero v h = absurd (omega arith)
 lowest_from i (suc n) zero h = rw (eq-eqb i (i + 0) (sym (add-zero i)))
 lowest_from i (suc n) (suc v) h =
     let e : i + suc v ≡ suc i + v = omega arith in
-    rw (ne_eqb i (i + suc v) (λ p. omega arith), e) (ap suc (lowest_from (suc i) n v (omega arith)))
+    rw (ne_eqb i (i + suc v) (λ p. omega arith)) (ap suc (ap (λ (x : ℕ). lowest x (from (suc i) n)) e ∙ lowest_from (suc i) n v (omega arith)))
 
 lowest_upto : (n v : ℕ) → v < n → lowest v (upto n) ≡ v
 unfolding upto

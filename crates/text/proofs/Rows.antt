@@ -18,9 +18,9 @@ settle m t z y =
       at = r;
       sizes = z;
       signs = y;
-      xs = set_if (stored t r) m.xs t.fixes (Steps.signedWhole (get_or y 8 0) (get_or z 8 0));
-      ys = set_if (stored t r) m.ys t.fixes (Steps.signedWhole (get_or y 9 0) (get_or z 9 0));
-      times = set_if (stored t r) m.times t.fixes (Steps.signedWhole (get_or y 10 0) (get_or z 10 0));
+      xs = set_if (stored t r) m.xs t.fixes (Steps.signed_whole (get_or y 8 0) (get_or z 8 0));
+      ys = set_if (stored t r) m.ys t.fixes (Steps.signed_whole (get_or y 9 0) (get_or z 9 0));
+      times = set_if (stored t r) m.times t.fixes (Steps.signed_whole (get_or y 10 0) (get_or z 10 0));
       marks = set_if (stored t r) m.marks t.fixes (sign_mark (get_or y 10 0));
       lens = set_if (stored t r) m.lens (get_or z 7 0) r.len;
     }

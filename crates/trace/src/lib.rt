@@ -1,5 +1,6 @@
 // Traces in the columns of the caller's slices. What a fix and a trace are is in specs/Trace.antt.
 #![tactic(auto)]
+
 ghost use Rattle.std.specs.Prelude.{◌≡◌};
 ghost use Rattle.trace.specs.Steps.{all_marked};
 

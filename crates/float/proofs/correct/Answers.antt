@@ -17,4 +17,4 @@ overflow_add-d c =
 
 pub count_up-requires-2 : goal.count_up-requires-2
 count_up-requires-2 c =
-    (search rules, steps c.args.r c.args.d _ _ _ (omega arith) refl c.requires.1)
+    record { m_bound = search rules; left_value = steps c.args.r c.args.d _ _ _ (omega arith) refl c.requires.d_value }

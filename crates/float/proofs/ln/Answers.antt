@@ -10,35 +10,29 @@ use Rattle.float.specs.Ln.{ln}
 use Rattle.float.proofs.Special.{at_nan, no_nan, kept, ln_nan, ln_zero, ln_infinity, ln_negative, in_range}
 use Rattle.float.proofs.ln.Goals as goal
 
--- what owning an `f64` tells: the format holds it
-held : (c : tie.Start) → T (fits binary64 c.args.p)
-held c = subst T (sym c.well-formed.0.1) tt
-
-known : (c : tie.Else1) → T (not (is_nan c.before.args.p))
-known c = no_nan c.before.args.p c.if1.false
-
 pub returns-then-p : goal.returns-then-p
 returns-then-p c = at_nan ln ln_nan c.args.p (subst T (sym c.if-p.true) tt)
 
 pub float_to_bits-b : goal.float_to_bits-b
-float_to_bits-b c = known c
+float_to_bits-b c = no_nan c.args.p c.if-p.false
 
 pub returns-then-b-eq9218868437227405312 : goal.returns-then-b-eq9218868437227405312
 returns-then-b-eq9218868437227405312 c =
-    kept ln _ 0x7ff0_0000_0000_0000 (held at_start) c.if-b-eq9218868437227405312.true ln_infinity
+    kept ln _ 0x7ff0_0000_0000_0000 (subst T (sym c.well_formed.0.1) tt) c.if-b-eq9218868437227405312.true ln_infinity
 
 pub returns-then-b-eq0 : goal.returns-then-b-eq0
 returns-then-b-eq0 c =
-    ln_zero c.args.p (held at_start) c.if-b-eq0.true
+    ln_zero c.args.p (subst T (sym c.well_formed.0.1) tt) c.if-b-eq0.true
 
 pub returns-then-b-gt9223372036854775808 : goal.returns-then-b-gt9223372036854775808
 returns-then-b-gt9223372036854775808 c =
-    ln_negative c.args.p (held at_start) (known at_else1) c.if-b-gt9223372036854775808.true
+    ln_negative c.args.p (subst T (sym c.well_formed.0.1) tt) (no_nan c.args.p c.if-p.false) c.if-b-gt9223372036854775808.true
 
 pub ln_positive-requires : goal.ln_positive-requires
 ln_positive-requires c =
-    left (to_bits binary64 c.args.p) c.if-b-eq9218868437227405312.false c.if-b-eq0.false c.if-b-gt9223372036854775808.false
-    (in_range c.args.p (held at_start) (known at_else1))
+    let h = left (to_bits binary64 c.args.p) c.if-b-eq9218868437227405312.false c.if-b-eq0.false c.if-b-gt9223372036854775808.false
+    (in_range c.args.p (subst T (sym c.well_formed.0.1) tt) (no_nan c.args.p c.if-p.false)) in
+    record { b_nonzero = h.0; b_bound = h.1 }
   where
     left : (b : ℕ) → (b ≡ 0x7ff0_0000_0000_0000 → ⊥) → (b % 0x8000_0000_0000_0000 ≡ 0 → ⊥) → b ≤ 0x8000_0000_0000_0000 → b % 2 ^ 63 ≤ 0x7ff0_0000_0000_0000
         → (0 < b) × (b < 0x7ff0_0000_0000_0000)
@@ -46,4 +40,4 @@ ln_positive-requires c =
 
 pub returns : goal.returns
 returns c =
-    c.ln_positive.ensures ∙ ap ln (of_bits-to_bits binary64 c.args.p (held at_start))
+    c.ln_positive.ensures ∙ ap ln (of_bits-to_bits binary64 c.args.p (subst T (sym c.well_formed.0.1) tt))

@@ -54,10 +54,10 @@ returns-then-not-more c =
     let net = net_of a.table.now a.stride a.strength.now a.d in
     let l = c.loop-left in (
       rounds_rest net l.left l.more
-          (run_of l.partition l.exits l.strengths l.t) c.loop-left-test.true (not-true l.more c.if-not-more.true) ∙ l.invariant.0,
+          (run_of l.partition l.exits l.strengths l.t) c.loop-left-test.true c.if-not-more.true ∙ l.invariant.0,
       l.invariant.2,
       visits_rest net l.left l.more
-          (run_of l.partition l.exits l.strengths l.t) l.order c.loop-left-test.true (not-true l.more c.if-not-more.true) ∙
+          (run_of l.partition l.exits l.strengths l.t) l.order c.loop-left-test.true c.if-not-more.true ∙
           l.invariant.10,
     )
 
@@ -89,7 +89,7 @@ loop-left-preserved c =
     let r = run_of l.partition l.exits l.strengths l.t in
     let k : c.round-t.result.rounds ≡ l.t.rounds + 1 = run_counts net r c.round-t.ensures.0 in
     let z : length a.strength.now ≤ 512 = omega (arith, c.requires.0.0.nodes, c.requires.0.0.few) in (
-      rounds_on net l.left l.more _ r c.loop-left-test.true (not-false l.more c.if-not-more.false) c.round-t.ensures.0
+      rounds_on net l.left l.more _ r c.loop-left-test.true c.if-not-more.false c.round-t.ensures.0
           refl ∙ l.invariant.0,
       sized_kept l.invariant.1 c.round-t.auto.partition c.round-t.auto.first
           c.round-t.auto.exits c.round-t.auto.strengths,
@@ -102,7 +102,7 @@ loop-left-preserved c =
       omega (arith, l.invariant.8, c.loop-left-test.true),
       at_most_more (512 + 512 * l.t.rounds + length a.strength.now) _ c.round-t.new.partition (omega arith)
           (run_at_most (512 + 512 * l.t.rounds) net r c.round-t.ensures.0 l.invariant.9),
-      visits_on net l.left l.more _ r l.order c.loop-left-test.true (not-false l.more c.if-not-more.false)
+      visits_on net l.left l.more _ r l.order c.loop-left-test.true c.if-not-more.false
           c.round-t.ensures.0 refl c.round-t.ensures.2 ∙ l.invariant.10,
     )
 

@@ -5,9 +5,6 @@ use Rattle.print.proofs.Room.{writes}
 use borrow.Author.Rules.{rules}
 use Rattle.print.proofs.print_labels.Goals as goal
 
-slice-aggregate-push-all : tie.Need-slice-aggregate-push-all
-slice-aggregate-push-all c = search rules
-
 pub returns : goal.returns
 unfolding labels_text label_names
 returns c =

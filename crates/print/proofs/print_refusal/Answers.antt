@@ -5,9 +5,6 @@ use Rattle.print.proofs.Room.{writes}
 use borrow.Author.Rules.{rules}
 use Rattle.print.proofs.print_refusal.Goals as goal
 
-slice-aggregate-push-all : tie.Need-slice-aggregate-push-all
-slice-aggregate-push-all c = search rules
-
 pub returns : goal.returns
 unfolding refusal_text refused_names
 returns c =

@@ -1,14 +1,12 @@
 -- `replay::all_words` meets its contract: what is left decides.
 use mathlib.Core.Path.{◌≡◌}
 use Prim.Native.Nat.{◌-◌}
-use mir.Syntax.{w32}
-use mir.Val.{to_z}
 use lib.ListN.{length, drop}
 use Rattle.replay.specs.Same.{all_words}
 use Rattle.replay.proofs.all_words.Given as goal
 
 abbrev pub invariant-loop-i : goal.invariant-loop-i
-invariant-loop-i l = all_words (to_z w32 l.w) (drop l.i l.s) ≡ all_words (to_z w32 l.w) l.s
+invariant-loop-i l = all_words l.w (drop l.i l.s) ≡ all_words l.w l.s
 
 abbrev pub decreases-loop-i : goal.decreases-loop-i
 decreases-loop-i l = length l.s - l.i

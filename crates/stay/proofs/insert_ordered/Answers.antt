@@ -8,13 +8,13 @@ use Rattle.stay.proofs.insert_ordered.Goals as goal
 
 pub insertion_point-p-requires : goal.insertion_point-p-requires
 insertion_point-p-requires c =
-    rw sub-zero c.requires.1
+    rw sub-zero c.requires.arr_value
 
 pub shift_in-requires : goal.shift_in-requires
 shift_in-requires c =
     let a = c.args in
     rw (sub-zero, length-take-le (a.len + 1) a.arr.now (omega arith))
-    (omega (arith, rw sub-zero at c.insertion_point-p.ensures, position_in a.arr.now a.len a.elem c.requires.0))
+    (omega (arith, rw sub-zero at c.insertion_point-p.ensures, position_in a.arr.now a.len a.elem c.requires.len_in_bounds))
 
 pub returns : goal.returns
 returns c =
@@ -24,5 +24,5 @@ returns c =
       c.insertion_point-p.ensures,
       sub-zero a.len,
       sub-zero (a.len + 1),
-      inserted a.arr.now a.len a.elem c.requires.0,
+      inserted a.arr.now a.len a.elem c.requires.len_in_bounds,
     )

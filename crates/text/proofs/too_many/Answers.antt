@@ -10,14 +10,9 @@ use Rattle.text.specs.declared.Parsed.TheVariants.{Refused}
 use Rattle.text.specs.Parsed.{too_many}
 use Rattle.text.proofs.too_many.Goals as goal
 
--- The arm without a number has the first case.
-first : (c : Checked) → OneOf (0 ∷ []) (tag_of the_type c) → Refused Counts ≡ too_many c
-unfolding too_many
-first passed h = refl
-first (failed e) h = absurd (omega arith)
-
 pub returns-in-Accepted : goal.returns-in-Accepted
-returns-in-Accepted c = first _ c.in-Accepted.keys1
+unfolding too_many
+returns-in-Accepted c = sym (ap too_many c.in-Accepted.is)
 
 pub returns-in-Refused : goal.returns-in-Refused
 unfolding too_many

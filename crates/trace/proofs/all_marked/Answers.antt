@@ -1,6 +1,5 @@
 -- `trace::all_marked` meets its contract.
 use mathlib.Core.Path.{refl}
-use Prim.Native.Nat.{◌-◌}
 use Rattle.trace.proofs.Marks.{marked_on, marked_stop, marked_end}
 use Rattle.trace.proofs.all_marked.Goals as goal
 

@@ -22,10 +22,10 @@ up : (m k : ℕ) → k < 64 → 1 * 2 ^ k % 2 ^ 64 ≤ 2 * (m % (1 * 2 ^ k % 2 ^
 up m k h l = sym (nearest_up m (1 * 2 ^ k % 2 ^ 64) (some k h) l) ∙ ap (nearest_whole m) (divisor k h)
 
 pub nonzero_div-q : goal.nonzero_div-q
-nonzero_div-q c = some c.args.k c.requires.1
+nonzero_div-q c = some c.args.k c.requires.k_bound
 
 pub nonzero_rem-twice_rest : goal.nonzero_rem-twice_rest
-nonzero_rem-twice_rest c = some c.args.k c.requires.1
+nonzero_rem-twice_rest c = some c.args.k c.requires.k_bound
 
 pub overflow_mul-twice_rest : goal.overflow_mul-twice_rest
 overflow_mul-twice_rest c = let l = mod-le c.args.m (1 * 2 ^ c.args.k % 2 ^ 64) in omega arith
@@ -34,7 +34,7 @@ pub overflow_add-result : goal.overflow_add-result
 overflow_add-result c = let l = div-le_self c.args.m (1 * 2 ^ c.args.k % 2 ^ 64) in omega arith
 
 pub returns-then-twice_rest-d : goal.returns-then-twice_rest-d
-returns-then-twice_rest-d c = down c.args.m c.args.k c.requires.1 c.if-twice_rest-d.true
+returns-then-twice_rest-d c = down c.args.m c.args.k c.requires.k_bound c.if-twice_rest-d.true
 
 pub returns-else-twice_rest-d : goal.returns-else-twice_rest-d
-returns-else-twice_rest-d c = up c.args.m c.args.k c.requires.1 c.if-twice_rest-d.false
+returns-else-twice_rest-d c = up c.args.m c.args.k c.requires.k_bound c.if-twice_rest-d.false

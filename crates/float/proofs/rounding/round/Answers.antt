@@ -11,22 +11,15 @@ use Rattle.float.proofs.RoundLaws.{rounded_neg}
 use Rattle.float.proofs.RoundBits.{negative, stays}
 use Rattle.float.proofs.rounding.round.Goals as goal
 
--- what owning an `f64` tells: the format holds it
-held : (c : tie.Start) → T (fits binary64 c.args.x)
-held c = subst T (sym c.well-formed.0.1) tt
-
-known : (c : tie.Else1) → T (not (is_nan c.before.args.x))
-known c = no_nan c.before.args.x c.if1.false
-
 pub returns-then-x : goal.returns-then-x
 returns-then-x c = at_nan round_ties_away round_nan c.args.x (subst T (sym c.if-x.true) tt)
 
 pub float_to_bits-b : goal.float_to_bits-b
-float_to_bits-b c = known c
+float_to_bits-b c = no_nan c.args.x c.if-x.false
 
 pub returns-then-size-ge4841369599423283200 : goal.returns-then-size-ge4841369599423283200
 returns-then-size-ge4841369599423283200 c =
-    stays c.args.x (held at_start) c.if-size-ge4841369599423283200.true (in_range c.args.x (held at_start) (known c.before))
+    stays c.args.x (subst T (sym c.well_formed.0.1) tt) c.if-size-ge4841369599423283200.true (in_range c.args.x (subst T (sym c.well_formed.0.1) tt) (no_nan c.args.x c.if-x.false))
 
 pub int_to_float-n : goal.int_to_float-n
 unfolding in_float
@@ -34,9 +27,9 @@ int_to_float-n c = le→leb c.nearest_whole-n.result (2 ^ 53) c.nearest_whole-n.
 
 pub returns-then-b-size : goal.returns-then-b-size
 returns-then-b-size c =
-    c.nearest_whole-n.ensures.1 ∙ ap round_ties_away (of_bits_lem c.args.x _ (held at_start) c.if-b-size.true)
+    c.nearest_whole-n.ensures.1 ∙ ap round_ties_away (of_bits_lem c.args.x _ (subst T (sym c.well_formed.0.1) tt) c.if-b-size.true)
 
 pub returns-else-b-size : goal.returns-else-b-size
 returns-else-b-size c =
     let y = of_bits binary64 (to_bits binary64 c.args.x % 2 ^ 63) in
-    ap neg c.nearest_whole-n.ensures.1 ∙ sym (rounded_neg y) ∙ ap round_ties_away (sym (negative c.args.x (held at_start) c.if-b-size.false))
+    ap neg c.nearest_whole-n.ensures.1 ∙ sym (rounded_neg y) ∙ ap round_ties_away (sym (negative c.args.x (subst T (sym c.well_formed.0.1) tt) c.if-b-size.false))

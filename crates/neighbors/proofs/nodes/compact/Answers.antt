@@ -1,6 +1,5 @@
 -- `neighbors::nodes::compact` meets its contract.
 use mathlib.Core.Path.{refl}
-use Prim.Native.Nat.{◌-◌}
 use native.Mathlib.Omega.{arith}
 use Rattle.neighbors.proofs.Compact.{compact_none, compact_all}
 use Rattle.neighbors.proofs.nodes.compact.Goals as goal

@@ -1,6 +1,5 @@
 -- `neighbors::nodes::find_nodes` meets its contract.
 use mathlib.Core.Path.{refl}
-use Prim.Native.Nat.{◌-◌}
 use native.Mathlib.Omega.{arith}
 use Rattle.neighbors.specs.StepsTables.{rows_with_weight}
 use Rattle.neighbors.proofs.Selected.{select_start, select_on, select_end}
@@ -14,13 +13,12 @@ put_if-k-requires c =
     (omega (arith, c.loop-i.invariant.0.few), omega arith)
 
 pub loop-i-preserved : goal.loop-i-preserved
-loop-i-preserved c =
-    (
-      select_on _ _ _ _ _ _ c.loop-i.invariant.0 c.loop-i-test.true (omega arith) c.has_weight-linked.ensures
-          c.put_if-k.ensures,
-      omega arith,
-      omega arith,
-    )
+loop-i-preserved c = (
+  select_on _ _ _ _ _ _ c.loop-i.invariant.0 c.loop-i-test.true (omega arith) c.has_weight-linked.ensures
+      c.put_if-k.ensures,
+  omega arith,
+  omega arith,
+)
 
 pub returns : goal.returns
 unfolding rows_with_weight

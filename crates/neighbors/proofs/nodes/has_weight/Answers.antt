@@ -1,5 +1,4 @@
 -- `neighbors::nodes::has_weight` meets its contract.
-use Prim.Native.Nat.{◌+◌, ◌*◌, ◌-◌, ◌<◌}
 use native.Mathlib.Omega.{arith}
 use Rattle.neighbors.specs.StepsTables.{has_weight}
 use Rattle.neighbors.proofs.Cells.{in_table, few_cells}
@@ -10,20 +9,14 @@ pub loop-j-init : goal.loop-j-init
 unfolding has_weight
 loop-j-init c = (any_start _ _, omega arith)
 
--- The cell that is read, in a table of at most 512 columns.
-read-few : (c : tie.In-loop invariant-loop decreases-loop) → let args = c.before.before.args in args.i * args.n + c.before.loop.j < 262144
-read-few c =
-    let at_start = c.before.before in
-    few_cells _ _ _ at_start.requires.0 at_start.requires.1 c.loop-test.true
-
 pub overflow_mul-i : goal.overflow_mul-i
-overflow_mul-i c = record { fits = omega (arith, read-few c) }
+overflow_mul-i c = record { fits = omega (arith, few_cells _ _ _ c.requires.0 c.requires.1 c.loop-j-test.true) }
 
 pub overflow_add-i : goal.overflow_add-i
-overflow_add-i c = record { fits = omega (arith, read-few c) }
+overflow_add-i c = record { fits = omega (arith, few_cells _ _ _ c.requires.0 c.requires.1 c.loop-j-test.true) }
 
 pub offset_bounds-table-i : goal.offset_bounds-table-i
-offset_bounds-table-i c = record { fits = omega (arith, read-few c) }
+offset_bounds-table-i c = record { fits = omega (arith, few_cells _ _ _ c.requires.0 c.requires.1 c.loop-j-test.true) }
 
 pub bounds-table-i : goal.bounds-table-i
 bounds-table-i c =

@@ -1,6 +1,5 @@
 -- `neighbors::places::distinct` meets its contract.
 use mathlib.Core.Path.{refl}
-use Prim.Native.Nat.{◌-◌}
 use native.Mathlib.Omega.{arith}
 use Rattle.neighbors.proofs.Distinct.{distinct_start, distinct_on, distinct_full, distinct_end}
 use Rattle.neighbors.proofs.places.distinct.Goals as goal
@@ -18,15 +17,14 @@ returns-then-xs-n c =
     c.requires.0 c.loop-k.invariant.2 _ _ _ _ c.sight-n.ensures (omega arith)
 
 pub loop-k-preserved : goal.loop-k-preserved
-loop-k-preserved c =
-    (
-      distinct_on _ _ _ _ _ c.loop-k.xs c.loop-k.ys c.loop-k.counts _ _ c.loop-k.invariant.0
-          c.loop-k-test.true c.requires.0 c.loop-k.invariant.2 _ _ _ _ c.sight-n.ensures (omega arith),
-      omega arith,
-      omega arith,
-      omega arith,
-      omega arith,
-    )
+loop-k-preserved c = (
+  distinct_on _ _ _ _ _ c.loop-k.xs c.loop-k.ys c.loop-k.counts _ _ c.loop-k.invariant.0
+      c.loop-k-test.true c.requires.0 c.loop-k.invariant.2 _ _ _ _ c.sight-n.ensures (omega arith),
+  omega arith,
+  omega arith,
+  omega arith,
+  omega arith,
+)
 
 pub returns : goal.returns
 returns c =

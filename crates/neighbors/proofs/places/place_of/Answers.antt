@@ -1,5 +1,4 @@
 -- `neighbors::places::place_of` meets its contract.
-use Prim.Native.Nat.{◌-◌}
 use native.Mathlib.Omega.{arith}
 use Rattle.neighbors.proofs.Search.{search_start, search_hit, search_on, search_end}
 use Rattle.neighbors.proofs.places.place_of.Goals as goal
@@ -12,12 +11,11 @@ returns-then-same_place c =
     search_hit _ _ _ _ c.loop-i.invariant.1 c.loop-i-test.true c.requires c.same_place.ensures c.if-same_place.true
 
 pub loop-i-preserved : goal.loop-i-preserved
-loop-i-preserved c =
-    (
-      omega arith,
-      search_on _ _ _ _ c.loop-i.invariant.1 c.loop-i-test.true c.requires c.same_place.ensures
-          c.if-same_place.false,
-    )
+loop-i-preserved c = (
+  omega arith,
+  search_on _ _ _ _ c.loop-i.invariant.1 c.loop-i-test.true c.requires c.same_place.ensures
+      c.if-same_place.false,
+)
 
 pub returns : goal.returns
 returns c = search_end _ _ _ _ c.loop-i.invariant.1 c.loop-i-test.false

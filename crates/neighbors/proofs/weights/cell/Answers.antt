@@ -1,26 +1,19 @@
 -- `neighbors::weights::cell` meets its contract.
 use mathlib.Core.Path.{◌∙◌}
-use Prim.Native.Nat.{◌+◌, ◌*◌, ◌<◌}
 use native.Mathlib.Omega.{arith}
 use lib.ListN.{length}
 use Rattle.neighbors.proofs.Cells.{row_before, few_cells, in_table, tabled_at}
 use Rattle.neighbors.proofs.Linked.{weight_sym, cell_same, cell_pair}
 use Rattle.neighbors.proofs.weights.cell.Goals as goal
 
--- The cell on the other side of the diagonal, in a table of at most 512 columns.
-read-few : (c : tie.Then1) → let args = c.before.before.before.before.before.args in args.j * length args.xs.now + args.i < 262144
-read-few c =
-    let at_start = c.before.before.before.before.before in
-    few_cells _ _ _ at_start.requires.1.0.few at_start.requires.0 at_start.requires.1.1
-
 pub overflow_mul-result : goal.overflow_mul-result
-overflow_mul-result c = record { fits = omega (arith, read-few c) }
+overflow_mul-result c = record { fits = omega (arith, few_cells _ _ _ c.requires.1.0.few c.requires.0 c.requires.1.1) }
 
 pub overflow_add-result : goal.overflow_add-result
-overflow_add-result c = record { fits = omega (arith, read-few c) }
+overflow_add-result c = record { fits = omega (arith, few_cells _ _ _ c.requires.1.0.few c.requires.0 c.requires.1.1) }
 
 pub offset_bounds-table-j : goal.offset_bounds-table-j
-offset_bounds-table-j c = record { fits = omega (arith, read-few c) }
+offset_bounds-table-j c = record { fits = omega (arith, few_cells _ _ _ c.requires.1.0.few c.requires.0 c.requires.1.1) }
 
 pub bounds-table-j : goal.bounds-table-j
 bounds-table-j c =

@@ -1,6 +1,5 @@
 -- `neighbors::weights::fill_row` meets its contract.
 use mathlib.Core.Path.{refl}
-use Prim.Native.Nat.{◌+◌, ◌*◌, ◌-◌, ◌<◌}
 use native.Mathlib.Omega.{arith}
 use lib.ListN.{length, length-set}
 use Rattle.neighbors.proofs.Cells.{few_cells, in_table, tabled_less, tabled_on, tabled_row, square_as}
@@ -11,35 +10,24 @@ loop-j-init c =
     (tabled_less _ _ _ _ _ c.requires.2 (omega arith), refl, omega arith)
 
 pub cell-w-requires : goal.cell-w-requires
-cell-w-requires c =
-    (
-      c.loop-j-test.true,
-      (
-        square_as c.requires.0 c.loop-j.invariant.1,
-        c.requires.1,
-        tabled_less _ _ _ _ _ c.loop-j.invariant.0
-            (omega arith),
-      ),
-    )
-
--- The cell that is written, in a table of at most 512 columns.
-written-few : (c : tie.After-cell invariant-loop decreases-loop) →
-    let at_loop = c.before.before.before in
-    let args = at_loop.before.before.before.before.before.args in
-    args.i * length args.xs.now + at_loop.loop.j < 262144
-written-few c =
-    let at_test = c.before.before in
-    let at_start = at_test.before.before.before.before.before.before in
-    few_cells _ _ _ at_start.requires.0.few at_start.requires.1 at_test.loop-test.true
+cell-w-requires c = (
+  c.loop-j-test.true,
+  (
+    square_as c.requires.0 c.loop-j.invariant.1,
+    c.requires.1,
+    tabled_less _ _ _ _ _ c.loop-j.invariant.0
+        (omega arith),
+  ),
+)
 
 pub overflow_mul-table : goal.overflow_mul-table
-overflow_mul-table c = record { fits = omega (arith, written-few c) }
+overflow_mul-table c = record { fits = omega (arith, few_cells _ _ _ c.requires.0.few c.requires.1 c.loop-j-test.true) }
 
 pub overflow_add-table : goal.overflow_add-table
-overflow_add-table c = record { fits = omega (arith, written-few c) }
+overflow_add-table c = record { fits = omega (arith, few_cells _ _ _ c.requires.0.few c.requires.1 c.loop-j-test.true) }
 
 pub offset_bounds-table-i : goal.offset_bounds-table-i
-offset_bounds-table-i c = record { fits = omega (arith, written-few c) }
+offset_bounds-table-i c = record { fits = omega (arith, few_cells _ _ _ c.requires.0.few c.requires.1 c.loop-j-test.true) }
 
 pub bounds-table-i : goal.bounds-table-i
 bounds-table-i c =
@@ -50,19 +38,18 @@ bounds-table-i c =
     )
 
 pub loop-j-preserved : goal.loop-j-preserved
-loop-j-preserved c =
-    (
-      tabled_on _ _ _ _ _ c.loop-j.invariant.0 c.loop-j-test.true
-          (omega (
-            arith,
-            in_table (length c.args.xs.now) c.args.i c.loop-j.j c.requires.1
-                c.loop-j-test.true,
-            c.requires.0.cells,
-          ))
-          c.cell-w.ensures,
-      simp length-set c.loop-j.invariant.1,
-      omega arith,
-    )
+loop-j-preserved c = (
+  tabled_on _ _ _ _ _ c.loop-j.invariant.0 c.loop-j-test.true
+      (omega (
+        arith,
+        in_table (length c.args.xs.now) c.args.i c.loop-j.j c.requires.1
+            c.loop-j-test.true,
+        c.requires.0.cells,
+      ))
+      c.cell-w.ensures,
+  simp length-set c.loop-j.invariant.1,
+  omega arith,
+)
 
 pub returns : goal.returns
 returns c = tabled_row _ _ _ _ _ c.loop-j.invariant.0 c.loop-j-test.false

@@ -1,6 +1,5 @@
 -- `neighbors::weights::fill_table` meets its contract.
 use mathlib.Core.Path.{refl}
-use Prim.Native.Nat.{◌-◌}
 use native.Mathlib.Omega.{arith}
 use Rattle.neighbors.proofs.Cells.{tabled_none, tabled_end, square_as}
 use Rattle.neighbors.proofs.weights.fill_table.Goals as goal

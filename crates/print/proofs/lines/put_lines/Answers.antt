@@ -8,10 +8,6 @@ use Rattle.print.proofs.lines.put_lines.Goals as goal
 pub loop-t-init : goal.loop-t-init
 loop-t-init c = (refl, omega arith, refl)
 
-pub overflow_cast-lens : goal.overflow_cast-lens
-overflow_cast-lens c =
-    omega (arith, c.shared_slice_known-in-loop-t-1.given c.loop-t.t)
-
 pub loop-t-preserved : goal.loop-t-preserved
 loop-t-preserved c =
     (

@@ -3,10 +3,6 @@ use Rattle.std.proofs.Common.{◌-◌, ◌∙◌, arith}
 use Rattle.text.proofs.Run.{run_on, run_end}
 use Rattle.text.proofs.machine.feed_bytes.Goals as goal
 
-pub overflow_add-i : goal.overflow_add-i
-overflow_add-i c =
-    omega (arith, c.loop-i-test.true, c.well-formed.1.0.0)
-
 pub loop-i-preserved : goal.loop-i-preserved
 loop-i-preserved c =
     (

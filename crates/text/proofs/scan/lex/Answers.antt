@@ -1,11 +1,8 @@
 -- `text::scan::lex` meets its contract.
-use Rattle.std.proofs.Common.{sym, ◌∙◌, rules}
+use Rattle.std.proofs.Common.{sym, ◌∙◌}
 use Rattle.text.specs.Form.{setting_names, fix_names}
 use Rattle.text.proofs.Stages.{lexed_0, lexed_sizes_0, lexed_signs_0, lexed_1, lexed_sizes_1, lexed_signs_1, lexed_2, lexed_sizes_2, lexed_signs_2, lexed_3, lexed_sizes_3, lexed_signs_3, lexed_4, lexed_sizes_4, lexed_signs_4}
 use Rattle.text.proofs.scan.lex.Goals as goal
-
-slice-aggregate-name-byte : tie.Need-slice-aggregate-name-byte
-slice-aggregate-name-byte c = search rules
 
 pub returns-then-s-eq0 : goal.returns-then-s-eq0
 unfolding setting_names
@@ -23,9 +20,6 @@ returns-then-s-eq1 c =
       c.row_byte.ensures.1 ∙ sym (lexed_sizes_1 _ _ _ c.if-s-eq1.true),
       c.row_byte.ensures.2 ∙ sym (lexed_signs_1 _ _ _ c.if-s-eq1.true),
     )
-
-slice-aggregate-name-byte-2 : tie.Need-slice-aggregate-name-byte-2
-slice-aggregate-name-byte-2 c = search rules
 
 pub returns-then-s-eq2 : goal.returns-then-s-eq2
 unfolding fix_names
