@@ -3,7 +3,7 @@ use mathlib.Core.Path.{◌≡◌, refl, sym, ap, ◌∙◌}
 use mathlib.Core.Bool.{Bool, true, false, not, ◌&&◌}
 use mathlib.Core.List.{List, [], ◌∷◌}
 use mathlib.Core.Logic.{◌⊎◌, inl, inr}
-use mathlib.Core.Option.{none, some}
+use mathlib.Core.Option.{some}
 use Prim.Native.Nat.{ℕ, zero, suc, ◌<◌}
 use native.Mathlib.Omega.{arith}
 use borrow.Author.Tests.{eqb-false, not-true, not-false}
@@ -19,7 +19,6 @@ use Rattle.trace.proofs.Fixes.{no_fix, point_at, time_at}
 use Rattle.settings.specs.declared.refusal.Refusal.TheVariants.{EmptyTrace, Coordinate, Timestamp, PartlyTimed, TimeOrder, CoordinateSize}
 use Rattle.settings.specs.declared.refusal.Checked.TheVariants.{Accepted}
 -- Named so that the examples are checked before these lemmas.
-use Rattle.checks.specs.Examples
 use Rattle.checks.specs.Traces.{finite_point, finite_time, untimed, partly_timed, above, above_first, in_time_order, check_fix, check_times, check_trace, check_fix_size, check_size}
 use Rattle.settings.proofs.Turns.{passed, turn_first, turn_rest, each_at}
 

@@ -1,6 +1,7 @@
 // The checks of tracks that come before a fit (docs/RULES.md, "When no labels are given"), in its order: 7, 8, 9, 10, 17; then trace by trace
 // 11 to 15; after all traces 16.
 #![tactic(auto)]
+
 pub mod fix;
 mod one_trace;
 pub mod slices;

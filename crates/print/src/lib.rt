@@ -1,5 +1,6 @@
 // What the program `stops` prints (docs/RULES.md, "Program `stops`"), into a lent slice of bytes.
 #![tactic(auto)]
+
 ghost use Rattle.print.specs.Lines.{labels_text, refusal_text};
 ghost use Rattle.print.specs.Written.{Writes};
 

@@ -1,5 +1,6 @@
 // Ordered insertion, the median, and the stays of one trace.
 #![tactic(auto)]
+
 pub mod all;
 
 ghost use Rattle.std.specs.Prelude.{◌≡◌, true, ◌++◌, ◌+◌, ◌<◌, ◌≤◌, length, take, drop};

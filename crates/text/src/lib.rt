@@ -1,5 +1,6 @@
 // The house form of the program `stops` (docs/RULES.md, "Program `stops`"): a text is parsed into settings and tracks, whole or in pieces.
 #![tactic(auto)]
+
 ghost use Rattle.std.specs.Prelude.{◌≡◌};
 ghost use Rattle.text.specs.Values.{read, columns};
 ghost use Rattle.text.specs.Parsed.{too_many, at_most768, parsed, Parses};

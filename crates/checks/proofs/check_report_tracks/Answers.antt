@@ -19,11 +19,10 @@ returns-then-is_refused-2 c =
     (stops _ _ c.check_counts-b.ensures (says c.is_refused-2.ensures c.if-is_refused-2.true))
 
 pub check_work-c-requires : goal.check_work-c-requires
-check_work-c-requires c =
-    (
-      (counts_few _ _ _ (accepts c.check_counts-b.ensures (says c.is_refused-2.ensures c.if-is_refused-2.false))).few-fixes,
-      omega arith,
-    )
+check_work-c-requires c = (
+  (counts_few _ _ _ (accepts c.check_counts-b.ensures (says c.is_refused-2.ensures c.if-is_refused-2.false))).few_fixes,
+  omega arith,
+)
 
 pub returns-then-is_refused-3 : goal.returns-then-is_refused-3
 unfolding check_report_tracks in_turn
@@ -36,7 +35,7 @@ pub check_contents-requires : goal.check_contents-requires
 check_contents-requires c =
     let h = lengths_agree _ _ _ _ _ _
     (accepts c.check_lengths-a.ensures (says c.is_refused.ensures c.if-is_refused.false)) in
-    (h.ys-length, h.times-length, h.marks-length, h.sum)
+    (h.ys_length, h.times_length, h.marks_length, h.sum)
 
 pub returns : goal.returns
 unfolding check_report_tracks in_turn

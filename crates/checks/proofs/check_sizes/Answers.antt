@@ -1,7 +1,7 @@
 -- `checks::check_sizes` meets its contract. The invariant: the traces from k on, the first of them starting at `at`, have the first refusal of all.
 use mathlib.Core.Path.{◌≡◌, refl, ap, ◌∙◌}
 use mathlib.Core.List.{List}
-use Prim.Native.Nat.{ℕ, ◌+◌, ◌-◌}
+use Prim.Native.Nat.{ℕ, ◌+◌}
 use native.Mathlib.Omega.{arith}
 use lib.ListN.{length, take, drop}
 use lib.Ieee.{Float}
@@ -25,7 +25,7 @@ loop-k-init c = (λ ts ms p q. refl, omega arith)
 
 pub overflow_cast-end : goal.overflow_cast-end
 overflow_cast-end c =
-    omega (arith, c.shared_slice_known-in-loop-k-1.given c.loop-k.k)
+    omega arith
 
 pub overflow_add-end : goal.overflow_add-end
 overflow_add-end c =

@@ -1,6 +1,5 @@
 -- `checks::check_traces` meets its contract. The invariant: the traces from k on, the first of them starting at `at`, have the first refusal of all.
 use mathlib.Core.Path.{refl, ap, ◌∙◌}
-use Prim.Native.Nat.{◌-◌}
 use native.Mathlib.Omega.{arith}
 use lib.ListN.{get_or}
 use Rattle.trace.specs.Trace.{fixes}
@@ -15,7 +14,7 @@ loop-k-init c = (refl, omega arith)
 
 pub overflow_cast-end : goal.overflow_cast-end
 overflow_cast-end c =
-    omega (arith, c.shared_slice_known-in-loop-k-1.given c.loop-k.k)
+    omega arith
 
 pub overflow_add-end : goal.overflow_add-end
 overflow_add-end c =

@@ -20,7 +20,7 @@ returns-then-is_refused-2 c =
 pub check_work-c-requires : goal.check_work-c-requires
 check_work-c-requires c =
     let h = counts_few _ _ _ (accepts c.check_counts-b.ensures (says c.is_refused-2.ensures c.if-is_refused-2.false)) in
-    (h.few-fixes, h.few-places)
+    (h.few_fixes, h.few_places)
 
 pub returns-then-is_refused-3 : goal.returns-then-is_refused-3
 unfolding check_tracks in_turn
@@ -33,7 +33,7 @@ pub check_contents-requires : goal.check_contents-requires
 check_contents-requires c =
     let h = lengths_agree _ _ _ _ _ _
     (accepts c.check_lengths-a.ensures (says c.is_refused.ensures c.if-is_refused.false)) in
-    (h.ys-length, h.times-length, h.marks-length, h.sum)
+    (h.ys_length, h.times_length, h.marks_length, h.sum)
 
 pub returns : goal.returns
 unfolding check_tracks in_turn

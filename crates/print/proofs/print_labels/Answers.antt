@@ -2,7 +2,6 @@
 use Rattle.print.specs.Lines.{label_names, labels_text}
 use Rattle.print.proofs.Pushes.{and_then}
 use Rattle.print.proofs.Room.{writes}
-use borrow.Author.Rules.{rules}
 use Rattle.print.proofs.print_labels.Goals as goal
 
 pub returns : goal.returns

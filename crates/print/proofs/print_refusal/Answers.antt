@@ -2,7 +2,6 @@
 use Rattle.print.specs.Lines.{refused_names, refusal_text}
 use Rattle.print.proofs.Pushes.{and_then, and_push, one}
 use Rattle.print.proofs.Room.{writes}
-use borrow.Author.Rules.{rules}
 use Rattle.print.proofs.print_refusal.Goals as goal
 
 pub returns : goal.returns

@@ -11,7 +11,7 @@ pub insert_ordered-requires : goal.insert_ordered-requires
 insert_ordered-requires c =
     let a = c.args in
     let p = c.requires in
-    rw sub-zero (omega (arith, part_length 0 a.q a.work.now (omega arith)), p.x-order)
+    rw sub-zero (record { len_in_bounds = omega (arith, part_length 0 a.q a.work.now (omega arith)); arr_value = p.x_order })
 
 pub insert_ordered-requires-2 : goal.insert_ordered-requires-2
 unfolding put insert_in
@@ -24,7 +24,7 @@ insert_ordered-requires-2 c =
       sub-zero,
       second_kept a.q a.len a.p.x a.p.y a.work.now p.fits p.more,
     )
-    (omega (arith, part_length a.q a.q a.work.now p.fits), p.y-order)
+    (record { len_in_bounds = omega (arith, part_length a.q a.q a.work.now p.fits); arr_value = p.y_order })
 
 pub returns : goal.returns
 unfolding insert_both put insert_in

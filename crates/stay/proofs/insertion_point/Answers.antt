@@ -1,6 +1,5 @@
 -- `stay::insertion_point` meets its contract: what lies below `lo` is at most elem, what lies from `hi` on is not.
 use mathlib.Core.Path.{◌∙◌}
-use mathlib.Core.Bool.{true, false}
 use Prim.Native.Nat.{◌+◌, ◌-◌, ◌/◌}
 use native.Mathlib.Nat.{not-suc-le-zero, lt_irrefl, lt_of_lt_of_le}
 use native.Mathlib.Omega.{arith}

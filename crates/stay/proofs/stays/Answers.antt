@@ -1,6 +1,6 @@
 -- `stay::stays` meets its contract: the loop goes on with the run of `proofs/Run.antt`, whose end `proofs/Whole.antt` reads.
 use mathlib.Core.Path.{refl, sym, ap, ◌∙◌, subst}
-use Prim.Native.Nat.{◌+◌, ◌-◌, ◌*◌, ◌/◌, ◌≤◌, ◌<◌}
+use Prim.Native.Nat.{◌+◌, ◌*◌, ◌/◌, ◌≤◌, ◌<◌}
 use native.Mathlib.Omega.{arith}
 use lib.ListN.{length, get_or}
 use lib.Ieee.{nan}
@@ -9,7 +9,7 @@ use Rattle.distance.specs.Distance.{euclidean}
 use Rattle.stay.specs.StepsOrdered.{in_order}
 use Rattle.trace.specs.Trace.{fixes}
 use Rattle.stay.specs.Steps.{state_of, step}
-use Rattle.stay.proofs.Whole.{Sound, sound_step, sound_first, run_on, point_is, Last, last_state, enough, whole, nothing}
+use Rattle.stay.proofs.Whole.{Sound, sound_step, sound_first, run_on, point_is, last_state, enough, whole, nothing}
 use borrow.Author.Rules.{rules}
 use Rattle.stay.proofs.stays.Goals as goal
 
@@ -17,7 +17,7 @@ pub returns-then-n-eq0 : goal.returns-then-n-eq0
 returns-then-n-eq0 c =
     let a = c.args in
     nothing a.s a.xs.now a.ys.now a.times.now a.marks.now a.found a.work.now a.events.now c.if-n-eq0.true
-    (omega (arith, c.requires.events-length, c.if-n-eq0.true))
+    (omega (arith, c.requires.events_length, c.if-n-eq0.true))
 
 pub insert_both-requires : goal.insert_both-requires
 unfolding in_order
@@ -29,7 +29,7 @@ loop-i-init c =
     let p = c.requires in (
       refl,
       rw c.insert_both.ensures
-          (sound_first a.s a.xs.now a.ys.now a.times.now a.marks.now p.ys-length p.times-length p.marks-length
+          (sound_first a.s a.xs.now a.ys.now a.times.now a.marks.now p.ys_length p.times_length p.marks_length
           a.found (omega arith) (length a.work.now / 4) a.work.now a.events.now (omega arith) (omega arith)),
       omega arith,
       refl,
@@ -46,14 +46,14 @@ next-o-requires c =
         room = record {
           before = h.before;
           group = omega (arith, c.insert_both.auto.work, c.requires.room);
-          places = omega (arith, c.requires.events-length);
+          places = omega (arith, c.requires.events_length);
           parts = omega (arith, c.insert_both.auto.work);
           median = omega (arith, c.insert_both.auto.work, c.requires.room, h.before, h.few);
           number = omega (arith, c.requires.numbers, h.before, h.few);
         };
         more = omega (arith, c.insert_both.auto.work, c.requires.room);
-        x_order = h.x-order;
-        y_order = h.y-order;
+        x_order = h.x_order;
+        y_order = h.y_order;
       },
     )
 
@@ -69,7 +69,7 @@ loop-i-preserved c =
       run_on euclidean a.s tm a.times.now (fixes a.xs.now a.ys.now a.times.now a.marks.now) l.i (length a.xs.now) st
           _ c.loop-i-test.true
           (e ∙ ap (λ (z : Point). step euclidean a.s tm a.times.now z l.i st)
-          (point_is a.s a.xs.now a.ys.now a.times.now a.marks.now p.ys-length p.times-length p.marks-length
+          (point_is a.s a.xs.now a.ys.now a.times.now a.marks.now p.ys_length p.times_length p.marks_length
           a.found l.i c.loop-i-test.true))
           ∙ l.invariant.0,
       subst (Sound a.found (l.i + 1)) (sym e)
@@ -85,75 +85,47 @@ unfolding state_of
 close-last-requires c =
     let l = c.loop-i in
     let h = l.invariant.1 in (
-      omega (arith, c.requires.times-length),
+      omega (arith, c.requires.times_length),
       record {
         before = omega (arith, h.before);
         group = omega (arith, c.insert_both.auto.work, c.requires.room);
-        places = omega (arith, c.requires.events-length);
+        places = omega (arith, c.requires.events_length);
         parts = omega (arith, c.insert_both.auto.work);
         median = omega (arith, c.insert_both.auto.work, c.requires.room, h.before, h.few);
         number = omega (arith, c.requires.numbers, h.before, h.few);
       },
     )
 
--- at the end: the state that the slices stand for
-module _ (c : tie.After-struct-known invariant-loop decreases-loop) where
-  some_fix :
-      let at_start = c.before.before.before.before.before.before.before.before.before.before.before.before.before.before.before.before.before.before.before.before.before.before in
-      0 < length at_start.args.xs.now
-  some_fix =
-      let at_if1 = c.before.before.before.before.before.before.before.before.before.before.before.before.before.before.before.before in
-      omega (arith, at_if1.if1.false)
-
-  some_room :
-      let at_start = c.before.before.before.before.before.before.before.before.before.before.before.before.before.before.before.before.before.before.before.before.before.before in
-      0 < length at_start.args.work.now / 4
-  some_room =
-      let at_start = c.before.before.before.before.before.before.before.before.before.before.before.before.before.before.before.before.before.before.before.before.before.before in
-      omega (arith, at_start.requires.room, some_fix)
-
-  fits :
-      let at_start = c.before.before.before.before.before.before.before.before.before.before.before.before.before.before.before.before.before.before.before.before.before.before in
-      4 * (length at_start.args.work.now / 4) ≤ length at_start.args.work.now
-  fits = omega arith
-
-  final :
-      let after_close = c.before.before.before.before in
-      let at_start = after_close.before.before.before.before.before.before.before.before.before.before.before.before.before.before.before.before.before.before in
-      let args = at_start.args in
-      Last args.s args.xs.now args.ys.now args.times.now args.marks.now at_start.requires.ys-length at_start.requires.times-length
-      at_start.requires.marks-length args.found some_fix (length args.work.now / 4) args.work.now args.events.now some_room fits
-      after_close.close.new.1.1.1.0 after_close.close.new.1.1.1.1.0 after_close.close.result
-  final =
-      let after_close = c.before.before.before.before in
-      let at_test = after_close.before.before.before in
-      let at_loop = at_test.before in
-      let after_insert_both = at_loop.before.before.before in
-      let after_all_marked = after_insert_both.before.before.before.before in
-      let at_start = after_all_marked.before.before.before.before.before.before.before in
-      let a = at_start.args in
-      let p = at_start.requires in
-      let l = at_loop.loop in
-      last_state a.s a.xs.now a.ys.now a.times.now a.marks.now p.ys-length p.times-length p.marks-length a.found
-      some_fix (length a.work.now / 4) a.work.now a.events.now some_room fits after_all_marked.all-marked.result
-      after_insert_both.insert-both.new.0 l.work _ l.events _ l.o after_close.close.result l.i
-      after_all_marked.all-marked.ensures after_insert_both.insert-both.ensures at_test.loop-test.false l.invariant.2 l.invariant.0
-      after_close.close.ensures
-
 pub overflow_sub-result : goal.overflow_sub-result
 overflow_sub-result c =
     let a = c.args in
     let p = c.requires in
-    enough a.s a.xs.now a.ys.now a.times.now a.marks.now p.ys-length p.times-length p.marks-length a.found
-    (some_fix c) (length a.work.now / 4) a.work.now a.events.now (some_room c) (fits c) c.close-last.new.work
-    c.close-last.new.events c.close-last.result (final c)
+    let l = c.loop-i in
+    let some_fix : 0 < length a.xs.now = omega (arith, c.if-n-eq0.false) in
+    let some_room : 0 < length a.work.now / 4 = omega (arith, p.room, some_fix) in
+    let fits : 4 * (length a.work.now / 4) ≤ length a.work.now = omega arith in
+    enough a.s a.xs.now a.ys.now a.times.now a.marks.now p.ys_length p.times_length p.marks_length a.found
+    some_fix (length a.work.now / 4) a.work.now a.events.now some_room fits c.close-last.new.work
+    c.close-last.new.events c.close-last.result (last_state a.s a.xs.now a.ys.now a.times.now a.marks.now p.ys_length p.times_length p.marks_length a.found
+    some_fix (length a.work.now / 4) a.work.now a.events.now some_room fits c.all_marked-timed.result
+    c.insert_both.new.work l.work _ l.events _ l.o c.close-last.result l.i
+    c.all_marked-timed.ensures c.insert_both.ensures c.loop-i-test.false l.invariant.2 l.invariant.0
+    c.close-last.ensures)
 
 pub returns : goal.returns
 returns c =
     let a = c.args in
     let p = c.requires in
-    whole a.s a.xs.now a.ys.now a.times.now a.marks.now p.ys-length p.times-length p.marks-length a.found
-    (some_fix c) (length a.work.now / 4) a.work.now a.events.now (some_room c) (fits c) c.close-last.new.work
+    let l = c.loop-i in
+    let some_fix : 0 < length a.xs.now = omega (arith, c.if-n-eq0.false) in
+    let some_room : 0 < length a.work.now / 4 = omega (arith, p.room, some_fix) in
+    let fits : 4 * (length a.work.now / 4) ≤ length a.work.now = omega arith in
+    whole a.s a.xs.now a.ys.now a.times.now a.marks.now p.ys_length p.times_length p.marks_length a.found
+    some_fix (length a.work.now / 4) a.work.now a.events.now some_room fits c.close-last.new.work
     c.close-last.new.events c.close-last.result refl
     (omega (arith, c.close-last.auto.work, c.loop-i.invariant.3, c.insert_both.auto.work))
-    (omega (arith, c.close-last.auto.events, p.events-length)) (final c)
+    (omega (arith, c.close-last.auto.events, p.events_length)) (last_state a.s a.xs.now a.ys.now a.times.now a.marks.now p.ys_length p.times_length p.marks_length a.found
+    some_fix (length a.work.now / 4) a.work.now a.events.now some_room fits c.all_marked-timed.result
+    c.insert_both.new.work l.work _ l.events _ l.o c.close-last.result l.i
+    c.all_marked-timed.ensures c.insert_both.ensures c.loop-i-test.false l.invariant.2 l.invariant.0
+    c.close-last.ensures)

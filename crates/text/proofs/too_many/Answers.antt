@@ -1,12 +1,5 @@
 -- `text::too_many` meets its contract.
-use Rattle.std.proofs.Common.{◌≡◌, [], ◌∷◌, sym, refl, ap, arith}
-use denote.Enum.Declared.{tag_of}
-use types.Run.{OneOf}
-use Rattle.settings.specs.declared.refusal.Refusal.TheVariants.{Counts}
-use Rattle.settings.specs.declared.refusal.Checked.{Checked}
-use Rattle.settings.specs.declared.refusal.Checked.TheVariants.{Accepted as passed, Refused as failed}
-use Rattle.settings.specs.contracts.refusal.Checked.{the_type}
-use Rattle.text.specs.declared.Parsed.TheVariants.{Refused}
+use Rattle.std.proofs.Common.{sym, ap}
 use Rattle.text.specs.Parsed.{too_many}
 use Rattle.text.proofs.too_many.Goals as goal
 

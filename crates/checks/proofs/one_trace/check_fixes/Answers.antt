@@ -1,6 +1,5 @@
 -- `checks::one_trace::check_fixes` meets its contract. The invariant: the fixes from i on have the first refusal of all.
 use mathlib.Core.Path.{refl}
-use Prim.Native.Nat.{◌-◌}
 use Rattle.checks.specs.Traces.{check_fix}
 use Rattle.settings.proofs.Turns.{says}
 use Rattle.trace.proofs.Fixes.{as_read}

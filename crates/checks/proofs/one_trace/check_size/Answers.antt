@@ -1,8 +1,7 @@
 -- `checks::one_trace::check_size` meets its contract. The invariant: the fixes from i on have the first refusal of all.
 use mathlib.Core.Path.{◌≡◌, refl}
 use mathlib.Core.Bool.{true, false}
-use Prim.Native.Nat.{ℕ, ◌-◌}
-use borrow.Author.Tests.{not-true, not-false}
+use Prim.Native.Nat.{ℕ}
 use Rattle.distance.specs.Limit.{in_limit}
 use Rattle.trace.specs.Trace.{Fix}
 use Rattle.settings.specs.declared.refusal.Refusal.TheVariants.{CoordinateSize}
@@ -30,14 +29,14 @@ returns-then-not-in_limit c =
     let args = c.args in
     λ ts ms p q. fix_stop (check_fix_size args.k) args.xs.now args.ys.now ts ms c.requires p q c.loop-i.i
     (c.loop-i.invariant ts ms p q) {r = Refused (CoordinateSize args.k)} c.loop-i-test.true
-    (beyond _ _ (says c.in_limit.ensures (not-true _ c.if-not-in_limit.true))) refl
+    (beyond _ _ (says c.in_limit.ensures c.if-not-in_limit.true)) refl
 
 pub loop-i-preserved : goal.loop-i-preserved
 loop-i-preserved c =
     let args = c.args in
     λ ts ms p q. fix_on (check_fix_size args.k) args.xs.now args.ys.now ts ms c.requires p q c.loop-i.i
     (c.loop-i.invariant ts ms p q) {r = Accepted} c.loop-i-test.true
-    (inside _ _ (says c.in_limit.ensures (not-false _ c.if-not-in_limit.false))) refl
+    (inside _ _ (says c.in_limit.ensures c.if-not-in_limit.false)) refl
 
 pub returns : goal.returns
 returns c =

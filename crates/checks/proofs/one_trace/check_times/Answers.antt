@@ -3,7 +3,6 @@ use mathlib.Core.Path.{◌≡◌, sym, ◌∙◌}
 use mathlib.Core.Bool.{Bool, not, ◌&&◌}
 use mathlib.Core.List.{List}
 use Prim.Native.Nat.{ℕ}
-use borrow.Author.Tests.{not-true, not-false}
 use lib.ListN.{length}
 use lib.Ieee.{Float}
 use Rattle.trace.specs.Trace.{fixes}
@@ -35,7 +34,7 @@ returns-then-not-in_time_order c =
     let args = c.args in
     λ xs ys p q. rw (
       partly_is xs ys args.times.now args.marks.now c.requires p q c.partly_marked.ensures c.if-partly_marked.false,
-      order_is xs ys args.times.now args.marks.now c.requires p q c.in_time_order.ensures (not-true _ c.if-not-in_time_order.true),
+      order_is xs ys args.times.now args.marks.now c.requires p q c.in_time_order.ensures c.if-not-in_time_order.true,
     )
 
 pub returns : goal.returns
@@ -44,5 +43,5 @@ returns c =
     let args = c.args in
     λ xs ys p q. rw (
       partly_is xs ys args.times.now args.marks.now c.requires p q c.partly_marked.ensures c.if-partly_marked.false,
-      order_is xs ys args.times.now args.marks.now c.requires p q c.in_time_order.ensures (not-false _ c.if-not-in_time_order.false),
+      order_is xs ys args.times.now args.marks.now c.requires p q c.in_time_order.ensures c.if-not-in_time_order.false,
     )

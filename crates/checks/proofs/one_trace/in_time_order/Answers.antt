@@ -1,6 +1,5 @@
 -- `checks::one_trace::in_time_order` meets its contract. The invariant: the times from i - 1 on are in order where all are.
 use mathlib.Core.Path.{refl}
-use Prim.Native.Nat.{◌-◌}
 use native.Mathlib.Omega.{arith}
 use Rattle.trace.proofs.Fixes.{as_read}
 use Rattle.checks.proofs.Columns.{order_on, order_stop, order_end}

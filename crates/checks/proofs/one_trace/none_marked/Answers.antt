@@ -1,6 +1,5 @@
 -- `checks::one_trace::none_marked` meets its contract. The invariant: no mark from i on is 1 where none is.
 use mathlib.Core.Path.{refl}
-use Prim.Native.Nat.{◌-◌}
 use Rattle.checks.proofs.Columns.{none_on, none_stop, none_end}
 use Rattle.checks.proofs.one_trace.none_marked.Goals as goal
 

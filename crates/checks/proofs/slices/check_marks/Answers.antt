@@ -1,6 +1,6 @@
 -- `checks::slices::check_marks` meets its contract. The invariant: the marks from i on have the first refusal of all.
 use mathlib.Core.Path.{◌≡◌, refl}
-use Prim.Native.Nat.{ℕ, ◌-◌, ◌<◌, ◌≤◌}
+use Prim.Native.Nat.{ℕ, ◌<◌, ◌≤◌}
 use borrow.Author.Tests.{lt-ltb, le-ltb}
 use Rattle.settings.specs.declared.refusal.Refusal.TheVariants.{TimeMark}
 use Rattle.settings.specs.declared.refusal.Checked.TheVariants.{Accepted, Refused}

@@ -1,6 +1,5 @@
 -- `checks::slices::sums_to` meets its contract. The invariant: what is left of n and the lengths from k on are together what n and all lengths are.
 use mathlib.Core.Path.{sym}
-use Prim.Native.Nat.{◌-◌}
 use native.Mathlib.Omega.{arith}
 use borrow.Author.Tests.{ne_eqb}
 use lib.ListN.{drop_of_length-le}
@@ -11,7 +10,7 @@ use Rattle.checks.proofs.slices.sums_to.Goals as goal
 
 pub overflow_cast-l : goal.overflow_cast-l
 overflow_cast-l c =
-    omega (arith, c.shared_slice_known-1.given c.loop-k.k)
+    omega arith
 
 pub returns-then-left-l : goal.returns-then-left-l
 returns-then-left-l c =

@@ -17,5 +17,5 @@ overflow_cast-e c =
 pub returns : goal.returns
 returns c =
     let f = to_z-of_z c.ranges.e in
-    to_z-of_z {w = w32} {z = c.label_at.result} (sfits_of c.label_at.type-inv) ∙ (rw f at c.label_at.ensures) ∙ label_of
-    c.args.stay-labels.now c.args.e (rw f at c.if-e-lt0.false)
+    to_z-of_z {w = w32} {z = c.label_at.result} (sfits_of c.label_at.type_inv) ∙ (rw f at c.label_at.ensures) ∙ label_of
+    c.args.stay_labels.now c.args.e (rw f at c.if-e-lt0.false)

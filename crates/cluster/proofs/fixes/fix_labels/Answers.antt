@@ -17,9 +17,9 @@ pub loop-i-preserved : goal.loop-i-preserved
 loop-i-preserved c =
     let a = c.args in
     let l = c.loop-i in (
-      fix_labelled a.events.now a.stay-labels.now l.labels l.i _ l.invariant.0 c.loop-i-test.true (omega arith)
-          (to_z-of_z {w = w32} {z = c.event_label.result} (sfits_of c.event_label.type-inv) ∙ c.event_label.ensures ∙ ap
-          (event_label a.stay-labels.now) (to_z-of_z (sfits_of c.event_label-arg-1.given))),
+      fix_labelled a.events.now a.stay_labels.now l.labels l.i _ l.invariant.0 c.loop-i-test.true (omega arith)
+          (to_z-of_z {w = w32} {z = c.event_label.result} (sfits_of c.event_label.type_inv) ∙ c.event_label.ensures ∙ ap
+          (event_label a.stay_labels.now) (to_z-of_z (sfits_of c.event_label-arg-1.given))),
       simp length-set (omega arith),
     )
 
@@ -28,5 +28,5 @@ shape_of-labels c = omega arith
 
 pub returns : goal.returns
 returns c =
-    fixes_labelled c.args.events.now c.args.stay-labels.now c.loop-i.labels c.loop-i.i
+    fixes_labelled c.args.events.now c.args.stay_labels.now c.loop-i.labels c.loop-i.i
     c.loop-i.invariant.0 c.loop-i-test.false (omega arith)

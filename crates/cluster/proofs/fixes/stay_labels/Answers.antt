@@ -16,9 +16,9 @@ pub loop-i-preserved : goal.loop-i-preserved
 loop-i-preserved c =
     let a = c.args in
     let l = c.loop-i in (
-      stay_labelled a.mx.now a.my.now a.px.now a.py.now a.place-labels.now l.out l.i _ l.invariant.0
+      stay_labelled a.mx.now a.my.now a.px.now a.py.now a.place_labels.now l.out l.i _ l.invariant.0
           c.loop-i-test.true (omega arith) (omega arith)
-          (λ cs q. to_z-of_z {w = w32} {z = c.median_label.result} (sfits_of c.median_label.type-inv) ∙ c.median_label.ensures cs q),
+          (λ cs q. to_z-of_z {w = w32} {z = c.median_label.result} (sfits_of c.median_label.type_inv) ∙ c.median_label.ensures cs q),
       simp length-set (omega arith),
     )
 
@@ -28,5 +28,5 @@ shape_of-out c = omega arith
 pub returns : goal.returns
 returns c =
     let args = c.args in
-    stays_labelled args.mx.now args.my.now args.px.now args.py.now args.place-labels.now c.loop-i.out c.loop-i.i
+    stays_labelled args.mx.now args.my.now args.px.now args.py.now args.place_labels.now c.loop-i.out c.loop-i.i
     c.loop-i.invariant.0 c.loop-i-test.false (omega arith)

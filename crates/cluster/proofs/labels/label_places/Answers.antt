@@ -29,7 +29,7 @@ loop-i-preserved c =
       omega arith,
       walk_on _ _ _ _ _ _ _ l.invariant.3 (omega arith) t c.is_node-node.ensures c.group_of.ensures
           c.label_count-count.ensures
-          (to_z-of_z {w = w32} (sfits_of {w = w32} c.label_of.type-inv) ∙ c.label_of.ensures) c.next_if-u.ensures,
+          (to_z-of_z {w = w32} (sfits_of {w = w32} c.label_of.type_inv) ∙ c.label_of.ensures) c.next_if-u.ensures,
     )
 
 pub shape_of-labels : goal.shape_of-labels

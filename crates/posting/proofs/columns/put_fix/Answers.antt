@@ -8,9 +8,6 @@ use Rattle.posting.proofs.LinesFrom.{first_of_page, within_page}
 use borrow.Author.Rules.{rules}
 use Rattle.posting.proofs.columns.put_fix.Goals as goal
 
-slice-aggregate-push-all : tie.Need-slice-aggregate-push-all
-slice-aggregate-push-all c = search rules
-
 pub put_line-requires : goal.put_line-requires
 put_line-requires c =
     rw (to_z-of_z c.ranges.l) c.requires

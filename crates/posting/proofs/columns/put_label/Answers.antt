@@ -19,9 +19,6 @@ returns-then-is_number c =
     number_aligned _ _ _ _ (sym (rw (to_z-of_z c.ranges.l) at c.is_number.ensures) ∙ c.if-is_number.true)
     (rw (to_z-of_z c.ranges.l) at c.number.ensures) c.put_3.ensures
 
-slice-aggregate-push-all : tie.Need-slice-aggregate-push-all
-slice-aggregate-push-all c = search rules
-
 pub returns : goal.returns
 returns c =
     none_aligned _ _ _ (sym (rw (to_z-of_z c.ranges.l) at c.is_number.ensures) ∙ c.if-is_number.false)

@@ -6,7 +6,7 @@ use Rattle.posting.proofs.columns.put_line.Goals as goal
 
 pub put_label-e-requires : goal.put_label-e-requires
 put_label-e-requires c =
-    rw (to_z-of_z c.ranges.l) c.requires.label-within
+    rw (to_z-of_z c.ranges.l) c.requires.label_within
 
 pub returns : goal.returns
 unfolding entry_line

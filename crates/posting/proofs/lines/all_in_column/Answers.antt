@@ -3,7 +3,6 @@ use mathlib.Core.Path.{refl}
 use Prim.Native.Nat.{◌-◌}
 use lib.ListN.{get_or}
 use lib.IntN.{pos}
-use borrow.Author.Tests.{not-true, not-false}
 use mir.Facts.{to_z-of_z}
 use mir.Syntax.{w32}
 use borrow.Author.Rules.{sfits_of}
@@ -17,13 +16,13 @@ pub returns-then-not-in_column : goal.returns-then-not-in_column
 returns-then-not-in_column c =
     all_stop c.args.labels.now c.loop-i.i c.loop-i.invariant _
     (rw (to_z-of_z {w = w32} {z = get_or c.args.labels.now c.loop-i.i (pos 0)} (sfits_of c.in_column-arg-1.given)) at c.in_column.ensures)
-    (not-true _ c.if-not-in_column.true) c.loop-i-test.true
+    c.if-not-in_column.true c.loop-i-test.true
 
 pub loop-i-preserved : goal.loop-i-preserved
 loop-i-preserved c =
     all_on c.args.labels.now c.loop-i.i c.loop-i.invariant _
     (rw (to_z-of_z {w = w32} {z = get_or c.args.labels.now c.loop-i.i (pos 0)} (sfits_of c.in_column-arg-1.given)) at c.in_column.ensures)
-    (not-false _ c.if-not-in_column.false) c.loop-i-test.true
+    c.if-not-in_column.false c.loop-i-test.true
 
 pub returns : goal.returns
 returns c = all_end _ _ c.loop-i.invariant c.loop-i-test.false

@@ -36,9 +36,9 @@ put_trace-k-requires c =
     let k = get_or c.args.lens.now c.loop-t.t 0 in
     let fits = trace_fits _ _ _ _ c.loop-t-test.true c.loop-t.invariant.1 in
     record {
-      few_traces = omega (arith, c.requires.few-traces, c.loop-t-test.true);
-      few_fixes = omega (arith, c.requires.few-fixes, length-take (i + k - i) (drop i labels), length-drop i labels);
-      labels_within = first_within (i + k - i) (drop i labels) (rest_within i labels c.requires.labels-within);
+      few_traces = omega (arith, c.requires.few_traces, c.loop-t-test.true);
+      few_fixes = omega (arith, c.requires.few_fixes, length-take (i + k - i) (drop i labels), length-drop i labels);
+      labels_within = first_within (i + k - i) (drop i labels) (rest_within i labels c.requires.labels_within);
     }
 
 pub loop-t-preserved : goal.loop-t-preserved

@@ -23,9 +23,9 @@ put_fix-k-requires c =
     let f = c.loop-f.f in
     rw (to_z-of_z {w = w32} {z = get_or labels f (pos 0)} (sfits_of c.put_fix-arg-in-loop-f-1.given))
     record {
-      trace_within = c.requires.few-traces;
-      fix_within = omega (arith, c.requires.few-fixes, c.loop-f-test.true);
-      label_within = label_at labels f c.requires.labels-within c.loop-f-test.true;
+      trace_within = c.requires.few_traces;
+      fix_within = omega (arith, c.requires.few_fixes, c.loop-f-test.true);
+      label_within = label_at labels f c.requires.labels_within c.loop-f-test.true;
     }
 
 pub loop-f-preserved : goal.loop-f-preserved

@@ -1,7 +1,6 @@
 -- `print::lines::put_label` meets its contract.
 use mathlib.Core.Path.{sym, ◌∙◌}
 use mir.Facts.{to_z-of_z}
-use borrow.Author.Rules.{rules}
 use Rattle.print.proofs.LabelLines.{label_number, label_none}
 use Rattle.print.proofs.lines.put_label.Goals as goal
 

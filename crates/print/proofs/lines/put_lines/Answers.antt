@@ -9,14 +9,13 @@ pub loop-t-init : goal.loop-t-init
 loop-t-init c = (refl, omega arith, refl)
 
 pub loop-t-preserved : goal.loop-t-preserved
-loop-t-preserved c =
-    (
-      lines_on _ _ c.args.lens.now c.args.labels.now c.loop-t.t c.loop-t.i c.least.result
-          (c.loop-t.i + c.least.result - c.loop-t.i) c.loop-t-test.true c.least.ensures
-          c.put_trace-k.ensures (omega arith) c.loop-t.invariant.0,
-      omega (arith, c.least.ensures),
-      c.put_trace-k.auto.out ∙ c.loop-t.invariant.2,
-    )
+loop-t-preserved c = (
+  lines_on _ _ c.args.lens.now c.args.labels.now c.loop-t.t c.loop-t.i c.least.result
+      (c.loop-t.i + c.least.result - c.loop-t.i) c.loop-t-test.true c.least.ensures
+      c.put_trace-k.ensures (omega arith) c.loop-t.invariant.0,
+  omega (arith, c.least.ensures),
+  c.put_trace-k.auto.out ∙ c.loop-t.invariant.2,
+)
 
 pub returns : goal.returns
 returns c = lines_end _ _ _ _ c.loop-t-test.false c.loop-t.invariant.0

@@ -1,6 +1,5 @@
 -- `print::lines::put_trace` meets its contract.
 use mathlib.Core.Path.{refl, ◌∙◌}
-use Prim.Native.Nat.{◌-◌}
 use lib.ListN.{get_or}
 use lib.IntN.{pos}
 use mir.Facts.{to_z-of_z}
@@ -13,16 +12,15 @@ pub loop-f-init : goal.loop-f-init
 loop-f-init c = (refl, refl)
 
 pub loop-f-preserved : goal.loop-f-preserved
-loop-f-preserved c =
-    (
-      trace_on _ _ _ _ _ c.loop-f-test.true
-          (rw
-          (to_z-of_z {w = w32} {z = get_or c.args.labels.now c.loop-f.f (pos 0)}
-          (sfits_of c.put_line-arg-in-loop-f-1.given))
-          at c.put_line-k.ensures)
-          c.loop-f.invariant.0,
-      c.put_line-k.auto.out ∙ c.loop-f.invariant.1,
-    )
+loop-f-preserved c = (
+  trace_on _ _ _ _ _ c.loop-f-test.true
+      (rw
+      (to_z-of_z {w = w32} {z = get_or c.args.labels.now c.loop-f.f (pos 0)}
+      (sfits_of c.put_line-arg-in-loop-f-1.given))
+      at c.put_line-k.ensures)
+      c.loop-f.invariant.0,
+  c.put_line-k.auto.out ∙ c.loop-f.invariant.1,
+)
 
 pub returns : goal.returns
 returns c = trace_end _ _ _ _ c.loop-f-test.false c.loop-f.invariant.0
