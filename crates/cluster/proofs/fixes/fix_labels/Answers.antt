@@ -19,7 +19,7 @@ loop-i-preserved c =
     let l = c.loop-i in (
       fix_labelled a.events.now a.stay_labels.now l.labels l.i _ l.invariant.0 c.loop-i-test.true (omega arith)
           (to_z-of_z {w = w32} {z = c.event_label.result} (sfits_of c.event_label.type_inv) ∙ c.event_label.ensures ∙ ap
-          (event_label a.stay_labels.now) (to_z-of_z (sfits_of c.event_label-arg-1.given))),
+          (event_label a.stay_labels.now) (to_z-of_z {w = w32} (sfits_of {w = w32} c.event_label-arg-1.given))),
       simp length-set (omega arith),
     )
 
