@@ -108,6 +108,7 @@ def turn_comment(text, tree):
 def turn_antt(text, tree, inside, seen):
     own, other = imports(text, tree)
     kept = {m.group(1) for m in re.finditer(r"^(?:pub |abbrev )*([^\s:]+) : .*\btie\.", text, re.M)}
+    modules = {m.group(2) for m in re.finditer(r"^use ([\w.'+]+) as ([\w-]+)$", text, re.M) if tree.is_own(m.group(1))}
     kept |= {m.group(1) for m in re.finditer(r"^pub ([^\s:]+-spec) :", text, re.M)} if inside != "." else set()
     out = []
     for line in text.split("\n"):
@@ -121,10 +122,13 @@ def turn_antt(text, tree, inside, seen):
             after = code[m.end() : m.end() + 1]
             if before == "«":
                 return w
+            owner = re.search(r"(?<![^\s(])([\w-]+)\.$", code[:start])
             if is_use and (before == "." or after == "."):
                 return w
             if is_use:
-                new = snake(w) if w in own else w
+                new = snake(w) if w in own or w in modules else w
+            elif before == "." and owner and owner.group(1) in modules:
+                new = snake(w)
             elif before == "." and re.match(r"[^\s(]", code[start - 2 : start - 1] or " "):
                 new = snake(w) if w in tree.fields and (inside == "." or re.search(r"[a-z][A-Z]", w)) else w
             elif w in other and w not in own or w in kept:

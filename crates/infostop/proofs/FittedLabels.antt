@@ -36,7 +36,7 @@ traces_below : (dist : Metric) (c : Config) (cap : ℕ) (ts : List (List Fix)) (
     → (k : ℕ) → Below (length f.places) (get_or f.labels k minus_one)
 unfolding given_by
 traces_below dist c cap ts f e l n k =
-    let d = a.traces-done dist c cap ts f e in
+    let d = a.traces_done dist c cap ts f e in
     let ms = all_medians dist c ts in
     let ps = places ms in
     let pl = (cluster dist c.r2 c.label_singleton c.seed ps).labels in

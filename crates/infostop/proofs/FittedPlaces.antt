@@ -51,7 +51,7 @@ module _ (dist : Metric) (c : Config) (cap : ℕ) (ts : List (List Fix)) (f : Fi
   traces_no_gap : cap ≤ 512 → fix_count ts ≤ 65536 → NoGap f.place_labels
   unfolding given_by
   traces_no_gap k n =
-      let d = a.traces-done dist c cap ts f e in
+      let d = a.traces_done dist c cap ts f e in
       let s = all_counted ms in
       let m = all_medians_few dist c ts in
       subst (λ (z : Fitted). NoGap z.place_labels) (sym d.is)
@@ -59,13 +59,13 @@ module _ (dist : Metric) (c : Config) (cap : ℕ) (ts : List (List Fix)) (f : Fi
 
   traces_differ : AllDiffer (map (λ (p : Place). p.at) f.places)
   unfolding given_by
-  traces_differ = subst (λ (z : Fitted). AllDiffer (map (λ (p : Place). p.at) z.places)) (sym (a.traces-done dist c cap ts f e).is) (places_differ ms)
+  traces_differ = subst (λ (z : Fitted). AllDiffer (map (λ (p : Place). p.at) z.places)) (sym (a.traces_done dist c cap ts f e).is) (places_differ ms)
 
   -- Each place has a label.
   traces_place_labels : length f.place_labels ≡ length f.places
   unfolding given_by cluster
   traces_place_labels =
-      subst (λ (z : Fitted). length z.place_labels ≡ length z.places) (sym (a.traces-done dist c cap ts f e).is)
+      subst (λ (z : Fitted). length z.place_labels ≡ length z.places) (sym (a.traces_done dist c cap ts f e).is)
       (length-map (upto (length (places ms))) _ ∙ length_upto (length (places ms)))
 
 module _ (c : Config) (xs ys times : List Float) (marks lens : List ℕ) (labels cap floats words : ℕ) (f : Fitted) (e : fit c xs ys times marks lens labels cap floats words ≡ fitted f) where
@@ -90,7 +90,7 @@ module _ (c : Config) (xs ys times : List Float) (marks lens : List ℕ) (labels
   pub fit_places_few : length f.places ≤ 512
   unfolding given_by
   fit_places_few =
-      let d = a.traces-done euclidean c cap (a.ts c xs ys times marks lens labels cap floats words f) f done.fits in
+      let d = a.traces_done euclidean c cap (a.ts c xs ys times marks lens labels cap floats words f) f done.fits in
       subst (λ (z : Fitted). length z.places ≤ 512) (sym d.is) (le_trans d.few few)
 
   -- Each has a label.
@@ -112,5 +112,5 @@ module _ (c : Config) (xs ys times : List Float) (marks lens : List ℕ) (labels
       let r = (config_accepted c done.config).resolution in
       let step : Step c.min_spatial_resolution = record { fine = r.from_least; coarse = r.to_largest } in
       let ms = all_medians_within euclidean c step ts fixes_in in
-      let d = a.traces-done euclidean c cap ts f done.fits in
+      let d = a.traces_done euclidean c cap ts f done.fits in
       subst (λ (z : Fitted). AllNear (map (λ (p : Place). p.at) z.places)) (sym d.is) (near (places (all_medians euclidean c ts)) (places_all MedianIn (all_medians euclidean c ts) ms))

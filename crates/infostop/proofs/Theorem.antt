@@ -177,7 +177,7 @@ module _ (dist : Metric) (c : Config) (ts : List (List Fix)) (fixes : fix_count 
   -- ---- (c)
 
   marks : ((cluster dist r2 single seed ps).mark ≡ rest) ↔ (((i : ℕ) → i < length ps → Alone given i) ⊎ KeptQuiet (node_network dist r2 ps) (seeded seed))
-  marks = let r = at_rest.rest-means dist r2 single seed ps ct few stays in ((λ e. to (r.0 e)), (λ z. r.1 (back z)))
+  marks = let r = at_rest.rest_means dist r2 single seed ps ct few stays in ((λ e. to (r.0 e)), (λ z. r.1 (back z)))
     where
       Kept : Type 0
       Kept = KeptQuiet (node_network dist r2 ps) (seeded seed)
@@ -233,7 +233,7 @@ module _ (dist : Metric) (c : Config) (ts : List (List Fix)) (fixes : fix_count 
           eqb_like (get_or gs v 0) (get_or gs x 0) (get_or (shown_groups given) v 0) (get_or (shown_groups given) x 0) (λ e. a ∙ ap (λ (z : ℕ). 2 * z) e ∙ sym b) (λ e. omega (arith, a, b, e))
 
   settles : (cluster dist r2 single seed ps).mark ≡ rest → (u h : ℕ) → u < length ns → NeighbourGroup given u h ⊎ NewGroup given h → lt (change given u h) (neg margin) ≡ false
-  settles e u h hu q = at_rest.no-gain dist r2 single seed ps ct few stays (shown_groups given) shown_alike e u h hu (way q)
+  settles e u h hu q = at_rest.no_gain dist r2 single seed ps ct few stays (shown_groups given) shown_alike e u h hu (way q)
     where
       way : NeighbourGroup given u h ⊎ NewGroup given h
           → at_rest.Neighbouring dist r2 single seed ps ct few stays (shown_groups given) u h ⊎ at_rest.Unused dist r2 single seed ps ct few stays (shown_groups given) h

@@ -4,7 +4,7 @@ use Rattle.std.specs.Float.{binary64}
 use Rattle.std.specs.Float.Ieee.{eq, ne, neg, of_bits, to_bits, is_nan}
 use Rattle.float.specs.Binary64.{whole64, zero64, one64, finite, same_bits}
 use Rattle.float.specs.Root.{root}
-use Rattle.float.specs.Examples as float-examples
+use Rattle.float.specs.Examples as float_examples
 use Rattle.float.specs.Ln.{ln}
 use Rattle.distance.specs.Limit.{within, in_limit}
 use Rattle.distance.specs.Grid.{on_grid}

@@ -17,7 +17,7 @@ slice_bounds-label_tracks-end c =
     let p = c.requires in
     let d = c.distinct-found in
     let g = c.in-Places.is in
-    array_room zero64 a.places _ d.new.1.1.0 p.0 d.auto.1.1.0
+    array_room zero64 a.places _ d.new.xs p.0 d.auto.xs
     (places_fit _ _ a.places _ _ d.ensures.0 g (array_part zero64 a.places p.0))
 
 pub slice_bounds-label_tracks-end-in-Places : goal.slice_bounds-label_tracks-end-in-Places
@@ -26,7 +26,7 @@ slice_bounds-label_tracks-end-in-Places c =
     let p = c.requires in
     let d = c.distinct-found in
     let g = c.in-Places.is in
-    array_room zero64 a.places _ d.new.1.1.1.0 p.0 d.auto.1.1.1.0
+    array_room zero64 a.places _ d.new.ys p.0 d.auto.ys
     (places_fit _ _ a.places _ _ d.ensures.0 g (array_part zero64 a.places p.0))
 
 pub slice_bounds-label_tracks-end-in-Places-2 : goal.slice_bounds-label_tracks-end-in-Places-2
@@ -35,7 +35,7 @@ slice_bounds-label_tracks-end-in-Places-2 c =
     let p = c.requires in
     let d = c.distinct-found in
     let g = c.in-Places.is in
-    array_room 0 a.places _ d.new.1.1.1.1.0 p.0 d.auto.1.1.1.1.0
+    array_room 0 a.places _ d.new.counts p.0 d.auto.counts
     (places_fit _ _ a.places _ _ d.ensures.0 g (array_part zero64 a.places p.0))
 
 pub slice_bounds-place_labels-end : goal.slice_bounds-place_labels-end
@@ -53,11 +53,11 @@ label_tracks-a-requires c =
     let d = c.distinct-found in
     let g = c.in-Places.is in
     let s = some_places _ _ _ _ d.ensures.0 g in (
-      place_slices a.places a.k a.floats.now a.words.now a.labels.now p.0 p.1 _ _ d.new.1.1.0 d.new.1.1.1.0
-          d.new.1.1.1.1.0 s.0 s.1 (array_part zero64 a.places p.0) d.ensures.1 d.ensures.2 d.ensures.3 _
+      place_slices a.places a.k a.floats.now a.words.now a.labels.now p.0 p.1 _ _ d.new.xs d.new.ys
+          d.new.counts s.0 s.1 (array_part zero64 a.places p.0) d.ensures.1 d.ensures.2 d.ensures.3 _
           (array_part (negsuc 0) _ (omega (arith, p.0, places_fit _ _ a.places _ _ d.ensures.0 g (array_part zero64 a.places p.0)))),
-      label_space a.places a.k a.floats.now a.words.now a.labels.now p.0 p.1 _ _ d.new.1.1.0 d.new.1.1.1.0
-          d.new.1.1.1.1.0 s.0 s.1 (array_part zero64 a.places p.0) d.ensures.1 d.ensures.2 d.ensures.3,
+      label_space a.places a.k a.floats.now a.words.now a.labels.now p.0 p.1 _ _ d.new.xs d.new.ys
+          d.new.counts s.0 s.1 (array_part zero64 a.places p.0) d.ensures.1 d.ensures.2 d.ensures.3,
     )
 
 pub returns-in-TooMany : goal.returns-in-TooMany
@@ -76,11 +76,11 @@ returns-in-Places c ts f =
     let g = c.in-Places.is in
     let s = some_places _ _ _ _ d.ensures.0 g in
     let l = c.label_tracks-a in
-    subst (λ (r : Fit). Ended a.model a.labels.now (places_outcome a.model.config a.places ts) r l.new.1.1.1.1.1.1.1.1.0)
+    subst (λ (r : Fit). Ended a.model a.labels.now (places_outcome a.model.config a.places ts) r l.new.labels)
     (sym c.with_model.ensures)
-    (medians_end a.model a.places a.k a.floats.now a.words.now a.labels.now p.0 p.1 ts f _ _ d.new.1.1.0
-    d.new.1.1.1.0 d.new.1.1.1.1.0 s.0 s.1 (array_part zero64 a.places p.0) d.ensures.1 d.ensures.2
-    d.ensures.3 l.result l.new.1.1.1.1.1.0 l.new.1.1.1.1.1.1.1.1.0
-    (l.auto.1.1.1.1.1.0 ∙ array_part (negsuc 0) _
+    (medians_end a.model a.places a.k a.floats.now a.words.now a.labels.now p.0 p.1 ts f _ _ d.new.xs
+    d.new.ys d.new.counts s.0 s.1 (array_part zero64 a.places p.0) d.ensures.1 d.ensures.2
+    d.ensures.3 l.result l.new.pl l.new.labels
+    (l.auto.pl ∙ array_part (negsuc 0) _
     (omega (arith, p.0, places_fit _ _ a.places _ _ d.ensures.0 g (array_part zero64 a.places p.0))))
     l.ensures)

@@ -26,6 +26,6 @@ returns c cs e =
     let m = length a.mx.now in
     let h : n + m ≤ length a.words.now = omega arith in
     rw c.if-none.false
-    (joined n m s.new.1.1.1.1.1.0 a.words.now _ _ (omega arith)
-    (s.auto.1.1.1.1.1.0 ∙ lent_length n (n + m) a.words.now (omega arith) h ∙ add-sub_cancel_left n m)
+    (joined n m s.new.out a.words.now _ _ (omega arith)
+    (s.auto.out ∙ lent_length n (n + m) a.words.now (omega arith) h ∙ add-sub_cancel_left n m)
     c.fix_labels.ensures (s.ensures cs e))

@@ -16,5 +16,5 @@ returns c =
     let p = c.requires in
     let k = c.cluster-kept in
     grouped _ _ _ _ _ _ _ _ _ k.result k.ensures _ c.none_labelled-none.ensures _ c.answer_of.ensures
-    (4 * length a.labels.now + length a.px.now * length a.px.now) k.new.1.1.1.1.1.1.0 _ p.1.few_stays
+    (4 * length a.labels.now + length a.px.now * length a.px.now) k.new.table _ p.1.few_stays
     (omega (arith, p.1.floats_length)) (c.label_fixes.ensures a.counts.now p.0.counts)
