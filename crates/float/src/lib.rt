@@ -1,5 +1,6 @@
 // Of an f64: the correctly rounded square root, the rules' stand-in for the natural logarithm, plogp, the finite test and, in `rounding`, the nearest whole number.
 #![tactic(auto)]
+
 ghost use Rattle.std.specs.Prelude.{◌≡◌, ◌+◌, ◌-◌, ◌*◌, ◌/◌, ◌^◌, ◌≤◌, ◌<◌, false};
 ghost use Rattle.std.specs.Float.{binary64};
 ghost use Rattle.std.specs.Float.Ieee.{of_bits};

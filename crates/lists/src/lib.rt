@@ -1,5 +1,6 @@
 // Small functions over numbers and slices that several crates call. The list laws of specs/ and proofs/ are the larger part of this crate.
 #![tactic(auto)]
+
 ghost use Rattle.std.specs.Prelude.{◌≡◌, max, length, replicate};
 
 pub fn wide(x: u32) -> usize

@@ -2,9 +2,8 @@
 use mathlib.Core.Path.{◌≡◌, sym, ap, ◌∙◌, subst}
 use Prim.Native.Nat.{ℕ, ◌%◌, ◌^◌, ◌≤◌, ◌<◌}
 use native.Mathlib.Omega.{arith}
-use mathlib.Core.Bool.{not}
 use lib.Dec.{T}
-use lib.Ieee.{binary64, fits, is_nan, to_bits}
+use lib.Ieee.{binary64, to_bits}
 use lib.Ieee.Bits.{of_bits-to_bits}
 use Rattle.float.specs.Ln.{ln}
 use Rattle.float.proofs.Special.{at_nan, no_nan, kept, ln_nan, ln_zero, ln_infinity, ln_negative, in_range}

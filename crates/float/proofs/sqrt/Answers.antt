@@ -2,9 +2,8 @@
 use mathlib.Core.Path.{◌≡◌, sym, ap, ◌∙◌, subst}
 use Prim.Native.Nat.{ℕ, ◌%◌, ◌^◌, ◌≤◌, ◌<◌}
 use native.Mathlib.Omega.{arith}
-use mathlib.Core.Bool.{not}
 use lib.Dec.{T}
-use lib.Ieee.{Float, binary64, fits, is_nan, to_bits}
+use lib.Ieee.{Float, binary64, to_bits}
 use lib.Ieee.Bits.{of_bits-to_bits}
 use Rattle.float.specs.Root.{root}
 use Rattle.float.proofs.Special.{at_nan, no_nan, kept, root_nan, root_zero, root_minus_zero, root_infinity, root_negative, in_range}

@@ -1,7 +1,6 @@
 -- `lists::copy` meets its contract. The loop has copied the elements below i.
 use mathlib.Core.Path.{refl, ◌∙◌}
 use native.Mathlib.Omega.{arith}
-use Prim.Native.Nat.{◌-◌}
 use lib.ListN.{get_or, length-set}
 use lib.Seq.{ext_get_or}
 use Rattle.lists.proofs.Stores.{stored_below}
@@ -11,12 +10,11 @@ pub loop-i-init : goal.loop-i-init
 loop-i-init c = ((λ k h. absurd (omega arith)), refl)
 
 pub loop-i-preserved : goal.loop-i-preserved
-loop-i-preserved c =
-    (
-      stored_below _ c.loop-i.to c.loop-i.i _ (omega (arith, c.loop-i.invariant.1, c.requires, c.loop-i-test.true))
-          (λ k. get_or c.args.from.now k 0) c.loop-i.invariant.0 refl,
-      simp length-set c.loop-i.invariant.1,
-    )
+loop-i-preserved c = (
+  stored_below _ c.loop-i.to c.loop-i.i _ (omega (arith, c.loop-i.invariant.1, c.requires, c.loop-i-test.true))
+      (λ k. get_or c.args.from.now k 0) c.loop-i.invariant.0 refl,
+  simp length-set c.loop-i.invariant.1,
+)
 
 pub shape_of-to : goal.shape_of-to
 shape_of-to c = c.loop-i.invariant.1

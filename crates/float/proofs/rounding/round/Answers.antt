@@ -1,9 +1,8 @@
 -- `float::rounding::round` meets its contract.
 use mathlib.Core.Path.{sym, ap, ◌∙◌, subst}
 use Prim.Native.Nat.{◌%◌, ◌^◌}
-use mathlib.Core.Bool.{not}
 use lib.Dec.{T, le→leb}
-use lib.Ieee.{binary64, neg, fits, is_nan, to_bits, of_bits, in_float}
+use lib.Ieee.{binary64, neg, to_bits, of_bits, in_float}
 use Rattle.float.specs.Round.{round_ties_away}
 use Rattle.float.specs.Examples.{round_nan}
 use Rattle.float.proofs.Special.{at_nan, no_nan, of_bits_lem, in_range}
