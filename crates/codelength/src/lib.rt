@@ -2,6 +2,7 @@
 //
 // The slices are those of crate `map_state`.
 #![tactic(auto)]
+
 ghost use Rattle.std.specs.Prelude.{◌≡◌, ◌+◌, ◌-◌, ◌*◌, ◌<◌, cond, length, replicate};
 ghost use Rattle.float.specs.Binary64.{zero64};
 ghost use Rattle.map_state.specs.Steps.{net_of, Firsts, Sized, AtNode};

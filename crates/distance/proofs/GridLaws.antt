@@ -2,7 +2,7 @@
 -- N - 1, so would be the quotient, since the format holds N - 1 and rounding keeps the order; but then its nearest whole number is not N. So N - 1 steps are less than
 -- |c|, and N steps less than |c| and one step more. Rounding the product keeps that order too.
 use mathlib.Core.Path.{◌≡◌, refl, sym, ap, ap₂, subst}
-use Prim.Native.Nat.{ℕ, zero, suc, ◌+◌, ◌*◌, ◌≤◌, ◌<◌}
+use Prim.Native.Nat.{ℕ, zero, suc, ◌*◌, ◌≤◌, ◌<◌}
 use native.Mathlib.Nat.{mul-pos, mul-le-mul, mul-le-mul_right, le_of_mul-le-mul_right, le_trans, le-suc}
 use native.Mathlib.Decide.{dec_le}
 use native.Mathlib.Omega.{arith}
@@ -22,7 +22,6 @@ use Rattle.float.proofs.Order.{true→T}
 use Rattle.distance.specs.declared.Point.{Point}
 use Rattle.distance.specs.Limit.{limit, within, in_limit}
 -- Named so that the examples are checked before these lemmas.
-use Rattle.distance.specs.Examples
 use Rattle.distance.specs.Grid.{on_grid, point_on_grid}
 use Rattle.distance.proofs.Size.{round_within, within_mono}
 use Rattle.distance.proofs.Bound.{grid_limit, in_grid_limit}

@@ -1,5 +1,6 @@
 // Points of the plane and their distance.
 #![tactic(auto)]
+
 ghost use Rattle.std.specs.Prelude.{◌≡◌};
 ghost use Rattle.distance.specs.Distance.{Measured};
 ghost use Rattle.distance.specs.Limit.{limit, within, in_limit};

@@ -8,6 +8,8 @@ use borrow.Author.Tests.{ltb-true, ltb-false}
 use lib.IntN.{ℤ, pos, negsuc}
 use lib.Signed.{lt_z}
 use lib.ListN.{length, take}
+use Rattle.std.specs.Prelude.{Result, Ok, Err, MatchResult}
+use Rattle.std.specs.Io.{ReadsAtMost}
 use Rattle.io.specs.Counts.{clamp_len}
 use Rattle.text.specs.declared.Reader.{Reader}
 use Rattle.text.specs.declared.Parsed.{Parsed}
@@ -19,7 +21,7 @@ use Rattle.settings.specs.declared.refusal.Refusal.TheVariants.{Text}
 use Rattle.input.specs.declared.Next.{Next}
 use Rattle.input.specs.declared.Next.TheVariants.{More, End, Failed}
 use Rattle.input.specs.declared.Piece.{Piece}
-use Rattle.input.specs.Calls.{Call, given, next_of, Taken, Heard, whole, broken, behind, heard_next, heard, ReadFrom}
+use Rattle.input.specs.Calls.{Moved, Call, given, next_of, Taken, Heard, whole, broken, behind, heard_next, heard, ReadFrom}
 use Rattle.input.specs.Steps.{goes_on, HoldsHeard, Told, Ends}
 
 -- ---- one call
@@ -40,6 +42,11 @@ unfolding next_of
 told_end (pos zero) h k = refl
 told_end (pos (suc n)) h k = absurd (let z = ltb-false 0 (suc n) k in omega arith)
 told_end (negsuc n) h k = absurd (false≢true (sym h))
+
+-- A call's answer is -1 where it failed, and at most the length of the buffer where it did not.
+pub could_be : {E : Type 0} (told : Result ℕ E) (got : ℤ) (buf : List ℕ) → ReadsAtMost told buf → MatchResult told (λ n. got ≡ pos n) (λ _. got ≡ negsuc 0) → Moved (length buf) got
+could_be (Ok n) got buf b e = rw e b.0
+could_be (Err _) got buf b e = rw e refl
 
 -- As many bytes as `io::count` says.
 pub taken_first : (n : ℤ) (buf : List ℕ) (k : ℕ) {r q : Reader} {c c' : Columns} → k ≡ clamp_len n (length buf) → Feeds (take k buf) r c q c' → Feeds (given n buf) r c q c'

@@ -1,6 +1,5 @@
--- What calls of C's `read` give, one by one and together.
-use Rattle.std.specs.Prelude.{◌≡◌, ℕ, zero, suc, List, [], ◌∷◌, ◌++◌, ℤ, pos, negsuc, length, take}
-use Rattle.libc.specs.Io.{Moved}
+-- What calls of `read` give, one by one and together.
+use Rattle.std.specs.Prelude.{◌≡◌, ℕ, zero, suc, ◌≤◌, List, [], ◌∷◌, ◌++◌, ℤ, pos, negsuc, length, take}
 use Rattle.io.specs.Counts.{clamp_len}
 use Rattle.settings.specs.declared.refusal.Refusal.TheVariants.{Text}
 use Rattle.text.specs.declared.Reader.{Reader}
@@ -13,6 +12,11 @@ use Rattle.input.specs.declared.Next.TheVariants.{More, End, Failed}
 use Rattle.input.specs.declared.Piece.{Piece}
 
 -- ---- one call
+
+-- what a call that is handed n bytes may answer: -1, or how many bytes it moved, at most n
+abbrev pub Moved : ℕ → ℤ → Type 0
+Moved n (pos k) = k ≤ n
+Moved n (negsuc k) = k ≡ 0
 
 -- What a call gave: its answer, which is -1 or at most the length of the buffer, and the buffer after it.
 pub record Call : Type 0 where

@@ -1,16 +1,19 @@
-// Standard input, read to its end in pieces of up to 65,536 bytes, whatever its length. A call of C's `read` that fails is not the end: the text is then
-// refused (22). No contract can name what C gave, so it is said of each call by itself (`take_piece`, exactly) and of the calls together (`read_input`).
+// Standard input, read to its end in pieces of up to 65,536 bytes, whatever its length. A call of `read` that fails is not the end: the text is then
+// refused (22). No contract can name what a call gave, so it is said of each call by itself (`take_piece`, exactly) and of the calls together (`read_input`).
 #![tactic(auto)]
-ghost use Rattle.std.specs.Prelude.{◌≡◌, List};
+
+ghost use Rattle.std.specs.Prelude.{◌≡◌, ◌≤◌, List, pos, negsuc, IfOk, MatchResult};
 ghost use Rattle.settings.specs.declared.refusal.Refusal.TheVariants.{Text};
 ghost use Rattle.text.specs.declared.Parsed.TheVariants.{Refused};
 ghost use Rattle.text.specs.Values.{columns};
 ghost use Rattle.input.specs.Calls.{Call, next_of, Taken, heard, ReadFrom};
 ghost use Rattle.input.specs.Steps.{goes_on, Took, Told, Ends};
 
-use libc::{STDERR_FILENO, STDIN_FILENO};
 use settings::refusal::Refusal;
+use std::io::Read;
 use text::{Parsed, Reader};
+
+const STDERR_FILENO: i32 = 2;
 
 // What a call of `read` told: there may be more, the input has ended, or the call has failed.
 #[derive(Clone, Copy)]
@@ -62,8 +65,20 @@ pub fn take_piece(
     }
 }
 
+// What a call of `read` answered: how many bytes it gave, or -1 where it failed.
+fn answer_of(told: std::io::Result<usize>) -> isize
+    requires { IfOk told (λ n. n ≤ 65536) }
+    ensures { MatchResult told (λ n. result ≡ pos n) (λ _. result ≡ negsuc 0) }
+{
+    match told {
+        Ok(n) => n as isize,
+        Err(_) => -1,
+    }
+}
+
 // Reads once, and takes what came.
-fn read_piece(
+fn read_piece<R: Read>(
+    stdin: &mut R,
     r: Reader,
     xs: &mut [f64],
     ys: &mut [f64],
@@ -76,7 +91,8 @@ fn read_piece(
         result (columns xs.new ys.new times.new marks.new lens.new) }
 {
     let mut buf = io::large_buffer();
-    let got = libc::read(STDIN_FILENO, &mut buf);
+    let told = stdin.read(&mut buf);
+    let got = answer_of(told);
     take_piece(got, &buf, r, xs, ys, times, marks, lens)
 }
 
@@ -91,7 +107,8 @@ fn goes_on(next: Next) -> bool
 }
 
 // Reads until a call gives no more. An input that has not ended after 2^64 - 1 calls counts as failed.
-fn read_pieces(
+fn read_pieces<R: Read>(
+    stdin: &mut R,
     xs: &mut [f64],
     ys: &mut [f64],
     times: &mut [f64],
@@ -105,7 +122,7 @@ fn read_pieces(
     let mut r = text::start();
     let mut turns = u64::MAX;
     while 0 < turns {
-        let p = read_piece(r, xs, ys, times, marks, lens);
+        let p = read_piece(stdin, r, xs, ys, times, marks, lens);
         let next = p.next;
         if !goes_on(next) {
             return p;
@@ -140,7 +157,8 @@ fn finish(p: Piece) -> Parsed
 }
 
 // Reads standard input to its end, into these columns.
-pub fn read_input(
+pub fn read_input<R: Read>(
+    stdin: &mut R,
     xs: &mut [f64],
     ys: &mut [f64],
     times: &mut [f64],
@@ -151,6 +169,6 @@ pub fn read_input(
         ReadFrom (heard gs) (columns xs.old ys.old times.old marks.old lens.old)
         result (columns xs.new ys.new times.new marks.new lens.new) }
 {
-    let p = read_pieces(xs, ys, times, marks, lens);
+    let p = read_pieces(stdin, xs, ys, times, marks, lens);
     finish(p)
 }

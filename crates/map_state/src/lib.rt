@@ -4,6 +4,7 @@
 // element a node: `partition`, the internal number of the node's group; `first`, the lowest member of that group; `exits` and
 // `strengths`, a group's sums, at its lowest member.
 #![tactic(auto)]
+
 ghost use Rattle.std.specs.Prelude.{◌≡◌, ◌+◌, ◌-◌, ◌*◌, ◌<◌, ◌≤◌, cond, length, get_or, set, Float};
 ghost use Rattle.std.specs.Float.Ieee.{lt};
 ghost use Rattle.float.specs.Binary64.{add64, zero64};

@@ -7,12 +7,10 @@ use native.Mathlib.Numerals.{unary_clauses}
 use native.Mathlib.Omega.{arith}
 use borrow.Author.Tests.{ltb-true, ltb-false, ne_eqb}
 use lib.Dec.{ltb}
-use lib.IntN.{ℤ, pos, negsuc}
 use lib.ListN.{length, length-append, replicate}
 use Rattle.text.specs.Bytes.{space}
-use Rattle.print.specs.Lines.{digits, decimal, label_text}
+use Rattle.print.specs.Lines.{digits, decimal}
 -- Named so that the examples are checked before these lemmas.
-use Rattle.posting.specs.Examples
 use Rattle.posting.specs.Sheet.{right_aligned}
 use Rattle.posting.specs.Steps.{last_digit, front_digit}
 

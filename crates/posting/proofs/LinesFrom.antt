@@ -1,8 +1,7 @@
 -- The lines of the sheet as the loops write them, fix by fix and trace by trace.
-use mathlib.Core.Path.{◌≡◌, refl, sym, ap, ap₂, ◌∙◌}
-use mathlib.Core.Bool.{true, false}
+use mathlib.Core.Path.{◌≡◌, refl, sym, ap, ◌∙◌}
 use mathlib.Core.List.{List, [], ◌∷◌, ◌++◌, append_assoc, append-nil, flatten}
-use Prim.Native.Nat.{ℕ, suc, ◌+◌, ◌-◌, ◌%◌, ◌≤◌, ◌<◌}
+use Prim.Native.Nat.{ℕ, suc, ◌+◌, ◌%◌, ◌≤◌, ◌<◌}
 use native.Mathlib.Numerals.{add-one}
 use native.Mathlib.Omega.{arith}
 use borrow.Author.Tests.{eq-eqb, ne_eqb}
@@ -13,7 +12,6 @@ use Rattle.trace.specs.Trace.{total}
 use Rattle.print.specs.Steps.{Out, pushes}
 use Rattle.print.proofs.Pushes.{and_then}
 -- Named so that the examples are checked before these lemmas.
-use Rattle.posting.specs.Examples
 use Rattle.posting.specs.Sheet.{Entry, entry, entry_line, heading, trace_entries, entries, per_page}
 use Rattle.posting.specs.Steps.{lines_at, lines_from}
 

@@ -1,5 +1,5 @@
 -- How a call for the posting sheet ends, by what its check says.
-use mathlib.Core.Path.{◌≡◌, ap, ap₂, sym, ◌∙◌}
+use mathlib.Core.Path.{◌≡◌, ap, ap₂, ◌∙◌}
 use mathlib.Core.List.{List}
 use Prim.Native.Nat.{ℕ}
 use lib.IntN.{ℤ}
@@ -8,7 +8,6 @@ use lib.Seq.{take_all}
 use Rattle.lists.specs.Lists.{overlay}
 use Rattle.text.specs.Parsed.{into}
 use Rattle.settings.specs.declared.refusal.Refusal.{Refusal}
-use Rattle.settings.specs.declared.refusal.Checked.{Checked}
 use Rattle.settings.specs.declared.refusal.Checked.TheVariants.{Accepted, Refused}
 use Rattle.print.specs.Written.{Writes}
 use Rattle.posting.specs.declared.Posted.TheVariants as posted

@@ -1,5 +1,6 @@
 // The posting sheet (docs/RULES.md, "Posting sheet"): the labels of all fixes laid out as bytes, in pages of 60, into a lent slice.
 #![tactic(auto)]
+
 ghost use Rattle.std.specs.Prelude.{◌≡◌, ◌+◌, ◌*◌, ◌≤◌};
 ghost use Rattle.print.specs.Written.{Writes};
 ghost use Rattle.posting.specs.Sheet.{sheet as Sheet·sheet, page_count};

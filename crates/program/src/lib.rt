@@ -1,15 +1,20 @@
 // What the programs `stops` and `sheet` share: standard input, read to its end whatever its length, is answered with the labels in the program's form or
 // with the refusal. A failed read is refused with 22, and a failed write is said on standard error.
 #![tactic(auto)]
+
 ghost use Rattle.std.specs.Prelude.{◌≡◌, length};
 ghost use Rattle.reply.specs.declared.Form.{Form as Form-as-Form};
 ghost use Rattle.program.specs.Answer.{Answer, Answered};
 
-use libc::{STDERR_FILENO, STDOUT_FILENO};
 use reply::Form;
+use std::io::Read;
+
+const STDOUT_FILENO: i32 = 1;
+
+const STDERR_FILENO: i32 = 2;
 
 // Reads standard input to its end, and puts the answer into `out`. Hands back how many bytes it has.
-pub fn answer_input(form: Form, out: &mut [u8]) -> usize
+pub fn answer_input<R: Read>(stdin: &mut R, form: Form, out: &mut [u8]) -> usize
     requires { length out.old ≡ 49152 }
     ensures { Answered form out.new result }
 {
@@ -18,7 +23,7 @@ pub fn answer_input(form: Form, out: &mut [u8]) -> usize
     let mut times = [0.0; 768];
     let mut marks = [0u8; 768];
     let mut lens = [0u32; 768];
-    let p = input::read_input(&mut xs, &mut ys, &mut times, &mut marks, &mut lens);
+    let p = input::read_input(stdin, &mut xs, &mut ys, &mut times, &mut marks, &mut lens);
     reply::answer(form, p, &xs, &ys, &times, &marks, &lens, out)
 }
 

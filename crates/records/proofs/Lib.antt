@@ -1,4 +1,3 @@
-pub mod Loan
 pub mod Steps
 pub mod Columns
 pub mod OpenTrace

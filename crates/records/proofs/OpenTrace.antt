@@ -1,6 +1,6 @@
 -- The times of an open trace: what the machine keeps of the fixes so far gives with those to come what the checks of crate `checks` say of all.
 use mathlib.Core.Path.{◌≡◌, refl}
-use mathlib.Core.Bool.{true, false, not, ◌&&◌, and-true, and_assoc}
+use mathlib.Core.Bool.{false, not, ◌&&◌, and-true, and_assoc}
 use mathlib.Core.List.{List, [], ◌∷◌}
 use mathlib.Core.Option.{none}
 use Prim.Native.Nat.{ℕ, ◌<◌}
@@ -18,7 +18,7 @@ use Rattle.settings.proofs.Turns.{first_alone}
 use Rattle.records.specs.declared.FixRecord.{FixRecord}
 use Rattle.records.specs.declared.judge.Times.{Times}
 use Rattle.records.specs.Records.{fix_of}
-use Rattle.records.specs.StepsJudge.{no_times, with_time, times_checked, next}
+use Rattle.records.specs.StepsJudge.{no_times, with_time, times_checked}
 
 -- 14 and 15 of a trace that has the times t already, and the fixes ts to come.
 unfoldable pub rest_times : ℕ → Times → List Fix → Checked

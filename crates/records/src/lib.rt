@@ -1,6 +1,7 @@
 // The fit over one lent slice of fix records. The records are judged first; those that pass all checks of tracks are taken apart into columns and
 // marks, two lent slices, which go to the fit over slices.
 #![tactic(auto)]
+
 ghost use Rattle.std.specs.Prelude.{◌≡◌};
 ghost use Rattle.infostop.specs.declared.answer.Answer.TheVariants as answer;
 ghost use Rattle.records.specs.Records.{RecordsFitted};

@@ -15,8 +15,8 @@ use Rattle.stay.proofs.Ordered.{insert_length, insert_in_order}
 use Rattle.lists.proofs.Parts.{lent, back, lent_first}
 use Rattle.reports.specs.Labels.{is_label}
 use Rattle.reports.specs.LabelMedians.{with_label, label_median}
+
 -- Named so that the examples are checked before these lemmas.
-use Rattle.reports.specs.Examples
 
 -- Behind an insertion the front is one longer.
 pub inserted : (g h : List Float) (n : ℕ) (v : Float) → n < length g → h ≡ insert_ordered v (take n g) ++ drop (n + 1) g → take (n + 1) h ≡ insert_ordered v (take n g)

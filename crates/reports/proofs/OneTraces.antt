@@ -25,7 +25,6 @@ use Rattle.reports.specs.View.{trace_start}
 use Rattle.reports.specs.Visits.{model_places, visited_labels, trace_fixes}
 use Rattle.reports.specs.Steps.{OneTrace, medians_of, LabelledStays, VisitsAsked}
 -- Named so that the examples are checked before these lemmas.
-use Rattle.reports.specs.Examples
 use Rattle.reports.proofs.Starts.{start_within}
 use Rattle.reports.proofs.Held.{held_part, held_length}
 

@@ -1,6 +1,6 @@
 -- The report of visits, from what the steps of the code say.
 use mathlib.Core.Path.{◌≡◌, refl, sym, ap, ap₂, ◌∙◌}
-use mathlib.Core.Bool.{true, false, false≢true, ◌||◌}
+use mathlib.Core.Bool.{false≢true, ◌||◌}
 use mathlib.Core.List.{List}
 use Prim.Native.Nat.{ℕ}
 use borrow.Author.Tests.{ltb-false, leb-false}

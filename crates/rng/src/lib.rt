@@ -1,6 +1,7 @@
 // The generator of the trials (xorshift64) and the order of visiting.
 // A state is a u64 that goes in by value; the next state is the generator's output.
 #![tactic(auto)]
+
 ghost use Rattle.std.specs.Prelude.{◌≡◌, ◌+◌, ◌-◌, ◌%◌, ◌<◌, ◌≤◌, length};
 ghost use Rattle.lists.specs.Lists.{upto};
 ghost use Rattle.rng.specs.Rng.{seeded, next_u64, gen_range, swap, shuffle, order};

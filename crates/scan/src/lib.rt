@@ -2,6 +2,7 @@
 //
 // The slices are those of crate `map_state`.
 #![tactic(auto)]
+
 ghost use Rattle.std.specs.Prelude.{◌≡◌, ◌+◌, ◌-◌, ◌*◌, ◌<◌, cond, ltb, length};
 ghost use Rattle.map_state.specs.Steps.{net_of, state_of, AtNode};
 ghost use Rattle.scan.specs.Scan.{best_delta, better, scan, highest_from, next_free_module, isolate};

@@ -13,7 +13,6 @@ use Rattle.settings.specs.declared.config.Config.{Config}
 use Rattle.settings.specs.declared.refusal.Refusal.TheVariants.{R1, R2, MinStayingTime, MaxTimeBetween, TimeBounds, MinSize, MinSpatialResolution, ResolutionBounds}
 use Rattle.settings.specs.declared.refusal.Checked.TheVariants.{Accepted}
 -- Named so that the examples are checked before these lemmas.
-use Rattle.settings.specs.Examples
 use Rattle.settings.specs.Settings.{unusable, least, negative, out_of_bounds, check_time_bounds, check_resolution, check_config}
 use Rattle.settings.proofs.Turns.{passed, turn_first, turn_rest}
 

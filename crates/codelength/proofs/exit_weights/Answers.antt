@@ -1,6 +1,5 @@
 -- `codelength::exit_weights` meets its contract. The loop: what is left to add, added to the sum so far, is the whole sum.
 use mathlib.Core.Path.{refl, ◌∙◌}
-use Prim.Native.Nat.{◌-◌}
 use Rattle.codelength.proofs.Sums.{out_on, out_end}
 use Rattle.codelength.proofs.exit_weights.Goals as goal
 

@@ -5,13 +5,12 @@ use Rattle.codelength.proofs.Sums.{codelength_is}
 use Rattle.codelength.proofs.map_equation.Goals as goal
 
 pub sum_terms-t-requires : goal.sum_terms-t-requires
-sum_terms-t-requires c =
-    (
-      c.requires.0.firsts,
-      c.sum_modules.auto.exits ∙ c.requires.0.exit,
-      c.sum_modules.auto.strengths ∙ c.requires.0.sums,
-      c.requires.1,
-    )
+sum_terms-t-requires c = (
+  c.requires.0.firsts,
+  c.sum_modules.auto.exits ∙ c.requires.0.exit,
+  c.sum_modules.auto.strengths ∙ c.requires.0.sums,
+  c.requires.1,
+)
 
 pub returns : goal.returns
 returns c =

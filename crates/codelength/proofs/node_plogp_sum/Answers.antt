@@ -1,6 +1,5 @@
 -- `codelength::node_plogp_sum` meets its contract. The loop: what is left to add, added to the sum so far, is the whole sum.
 use mathlib.Core.Path.{refl, ◌∙◌, ap}
-use Prim.Native.Nat.{◌-◌}
 use lib.Ieee.{Float}
 use Rattle.float.specs.Binary64.{add64}
 use Rattle.codelength.proofs.Sums.{nodes_on, nodes_end}

@@ -1,6 +1,6 @@
 -- `codelength::sum_modules` meets its contract. The loop: the nodes from v on, added to the sums so far, give the sums of the groups.
 use mathlib.Core.Path.{refl, ◌∙◌, ap}
-use Prim.Native.Nat.{ℕ, ◌-◌}
+use Prim.Native.Nat.{ℕ}
 use native.Mathlib.Omega.{arith}
 use lib.ListN.{replicate}
 use Rattle.float.specs.Binary64.{zero64}

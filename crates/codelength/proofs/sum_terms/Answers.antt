@@ -1,7 +1,7 @@
 -- `codelength::sum_terms` meets its contract. The loop: the groups whose lowest member is v or higher, added to the terms so far, give all terms.
 use mathlib.Core.Path.{◌∙◌, ap}
 use mathlib.Core.Bool.{cond}
-use Prim.Native.Nat.{ℕ, ◌-◌}
+use Prim.Native.Nat.{ℕ}
 use lib.ListN.{get_or}
 use lib.Dec.{eqb}
 use lib.Ieee.{nan}

@@ -7,6 +7,6 @@ pub returns : goal.returns
 returns c =
     let fits = c.ranges.got in
     record {
-      read = taken_first _ _ _ (rw (to_z-of_z fits) at c.count-n.ensures.1) c.feed-q.ensures;
+      read = taken_first _ _ _ (rw (to_z-of_z fits) at c.count-n.ensures.value) c.feed-q.ensures;
       next = rw (to_z-of_z fits) at c.next_of-next.ensures;
     }

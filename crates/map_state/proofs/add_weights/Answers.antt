@@ -1,6 +1,5 @@
 -- `map_state::add_weights` meets its contract. The loop: what is left to add, added to the sum so far, is the whole sum.
 use mathlib.Core.Path.{refl, ◌∙◌}
-use Prim.Native.Nat.{◌-◌}
 use Rattle.map_state.proofs.Rows.{weights_on, weights_end}
 use Rattle.map_state.proofs.add_weights.Goals as goal
 

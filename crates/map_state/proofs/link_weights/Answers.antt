@@ -1,6 +1,5 @@
 -- `map_state::link_weights` meets its contract. The loop: what is left to add, added to the weights so far, is the whole.
 use mathlib.Core.Path.{refl, sym, ◌∙◌}
-use Prim.Native.Nat.{◌-◌}
 use Rattle.map_state.proofs.Loops.{link_on, link_end}
 use Rattle.map_state.proofs.link_weights.Goals as goal
 

@@ -1,5 +1,4 @@
 -- `map_state::lowest` meets its contract. The loop: no node below v is in the group.
-use Prim.Native.Nat.{◌-◌}
 use native.Mathlib.Omega.{arith}
 use Rattle.map_state.proofs.Loops.{lowest_hit, lowest_skip, lowest_end}
 use Rattle.map_state.proofs.lowest.Goals as goal

@@ -1,6 +1,6 @@
 -- `map_state::renew_first` meets its contract. The loop has given the nodes below v their lowest members, and the others keep theirs.
 use mathlib.Core.Path.{refl, ◌∙◌, ap}
-use Prim.Native.Nat.{ℕ, ◌-◌}
+use Prim.Native.Nat.{ℕ}
 use native.Mathlib.Omega.{arith}
 use lib.ListN.{get_or, length-set}
 use Rattle.map_state.specs.Steps.{first_after}

@@ -1,7 +1,7 @@
 -- `map_state::sum_q` meets its contract. The loop: the groups whose lowest member is v or higher, added to the sum so far, give Q.
 use mathlib.Core.Path.{◌∙◌, ap}
 use mathlib.Core.Bool.{cond}
-use Prim.Native.Nat.{ℕ, ◌-◌}
+use Prim.Native.Nat.{ℕ}
 use lib.ListN.{get_or}
 use lib.Dec.{eqb}
 use lib.Ieee.{nan}

@@ -1,6 +1,5 @@
 -- `map_state::total_weight` meets its contract. The loop: the links of the nodes from u on, added to the sum so far, give the total.
 use mathlib.Core.Path.{◌∙◌}
-use Prim.Native.Nat.{◌-◌}
 use native.Mathlib.Nat.{sub-zero}
 use native.Mathlib.Omega.{arith}
 use Rattle.map_state.proofs.Rows.{row_inside, row_above, total_on, total_end}

@@ -4,13 +4,13 @@ use Rattle.program.proofs.Heard.{text_of, heard_text, heard_answered}
 use Rattle.program.proofs.answer_input.Goals as goal
 
 pub answer-requires : goal.answer-requires
-answer-requires c =
+answer-requires g c =
     let u = c.read_input-p.ensures in
     (text_of (heard u.0), heard_text (heard u.0) _ _ u.1)
 
 pub returns : goal.returns
-returns c =
+returns g c =
     let u = c.read_input-p.ensures in
     let a = c.answer in
     let long = c.requires in
-    heard_answered c.args.form u.0 _ _ _ (a.ensures.writes (heard_text (heard u.0) _ _ u.1)) long a.auto.1.1.1.1.1.1.1.0
+    heard_answered c.args.form u.0 _ _ _ (a.ensures.writes (heard_text (heard u.0) _ _ u.1)) long a.auto.out

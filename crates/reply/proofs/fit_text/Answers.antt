@@ -4,17 +4,17 @@ use Rattle.reply.proofs.fit_text.Goals as goal
 
 pub slice_bounds-print_as-end : goal.slice_bounds-print_as-end
 slice_bounds-print_as-end c =
-    c.requires.lens-room
+    c.requires.lens_room
 
 pub slice_bounds-print_as-end-in-Labelled : goal.slice_bounds-print_as-end-in-Labelled
 slice_bounds-print_as-end-in-Labelled c =
-    labels_room c.args.input.fixes c.fit_predict_many-f.new.labels c.requires.few-fixes
+    labels_room c.args.input.fixes c.fit_predict_many-f.new.labels c.requires.few_fixes
     c.fit_predict_many-f.auto.labels
 
 pub print_as-requires : goal.print_as-requires
 print_as-requires c =
     let a = c.args in
-    labelled_within a.input a.xs.now a.ys.now a.times.now a.marks.now a.lens.now c.requires.few-fixes
+    labelled_within a.input a.xs.now a.ys.now a.times.now a.marks.now a.lens.now c.requires.few_fixes
     c.from_config-made.result c.from_config-made.ensures c.fit_predict_many-f.result
     c.fit_predict_many-f.new.labels c.fit_predict_many-f.ensures.ended
     c.fit_predict_many-f.auto.labels _ _ c.in-Labelled.is
@@ -22,7 +22,7 @@ print_as-requires c =
 pub returns-in-Labelled : goal.returns-in-Labelled
 returns-in-Labelled c =
     let a = c.args in
-    labelled_writes a.input a.xs.now a.ys.now a.times.now a.marks.now a.lens.now c.requires.few-fixes
+    labelled_writes a.input a.xs.now a.ys.now a.times.now a.marks.now a.lens.now c.requires.few_fixes
     c.from_config-made.result c.from_config-made.ensures c.fit_predict_many-f.result
     c.fit_predict_many-f.new.labels c.fit_predict_many-f.ensures.ended
     c.fit_predict_many-f.auto.labels _ _ c.in-Labelled.is a.form
@@ -31,7 +31,7 @@ returns-in-Labelled c =
 pub returns-in-Refused : goal.returns-in-Refused
 returns-in-Refused c =
     let a = c.args in
-    refused_writes a.input a.xs.now a.ys.now a.times.now a.marks.now a.lens.now c.requires.few-fixes
+    refused_writes a.input a.xs.now a.ys.now a.times.now a.marks.now a.lens.now c.requires.few_fixes
     c.from_config-made.result c.from_config-made.ensures c.fit_predict_many-f.result
     c.fit_predict_many-f.new.labels c.fit_predict_many-f.ensures.ended a.form _
     c.in-Refused.is c.print_refusal.ensures

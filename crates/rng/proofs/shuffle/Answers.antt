@@ -3,7 +3,7 @@ use mathlib.Core.Path.{refl, sym, ◌∙◌}
 use native.Mathlib.Omega.{arith}
 use native.Mathlib.Nat.{mod-lt}
 use Prim.Native.Nat.{◌-◌, ◌+◌, ◌<◌}
-use Rattle.rng.specs.Rng.{shuffle, swap}
+use Rattle.rng.specs.Rng.{shuffle}
 use Rattle.rng.proofs.Visits.{shuffle_on, shuffle_end}
 use Rattle.rng.proofs.shuffle.Goals as goal
 

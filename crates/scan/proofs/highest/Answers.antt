@@ -1,6 +1,5 @@
 -- `scan::highest` meets its contract. The loop: the highest of the number so far and the groups from v on is the highest of all.
 use mathlib.Core.Path.{refl, ◌∙◌}
-use Prim.Native.Nat.{◌-◌}
 use Rattle.scan.proofs.Candidates.{highest_on, highest_end}
 use Rattle.scan.proofs.highest.Goals as goal
 

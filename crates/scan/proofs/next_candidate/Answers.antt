@@ -1,7 +1,6 @@
 -- `scan::next_candidate` meets its contract. The loop has found the lowest candidate among the nodes below v.
 use mathlib.Core.Path.{◌≡◌}
 use native.Mathlib.Omega.{arith}
-use Prim.Native.Nat.{◌-◌}
 use lib.ListN.{length}
 use Rattle.scan.proofs.Floor.{next_start}
 use Rattle.scan.proofs.next_candidate.Goals as goal

@@ -2,7 +2,6 @@
 use mathlib.Core.Path.{refl, ◌∙◌}
 use native.Mathlib.Omega.{arith}
 use native.Mathlib.Nat.{add-sub_cancel_left}
-use Prim.Native.Nat.{◌-◌}
 use Rattle.map_state.specs.Steps.{net_of, state_of}
 use Rattle.map_state.specs.Network.{row}
 use Rattle.scan.specs.Steps.{answer_of}

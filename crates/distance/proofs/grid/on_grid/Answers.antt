@@ -4,7 +4,6 @@ use mathlib.Core.Bool.{Bool, true, false, cond}
 use lib.Ieee.{Float, lt}
 use Rattle.float.specs.Binary64.{zero64, mul64, div64}
 use Rattle.float.specs.Round.{round_ties_away}
-use Rattle.distance.specs.Examples
 use Rattle.distance.specs.Grid.{on_grid}
 use Rattle.distance.proofs.grid.on_grid.Goals as goal
 

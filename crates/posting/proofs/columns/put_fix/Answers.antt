@@ -5,7 +5,6 @@ use Rattle.print.specs.Steps.{pushes}
 use Rattle.print.proofs.Pushes.{and_then}
 use Rattle.posting.specs.Sheet.{heading}
 use Rattle.posting.proofs.LinesFrom.{first_of_page, within_page}
-use borrow.Author.Rules.{rules}
 use Rattle.posting.proofs.columns.put_fix.Goals as goal
 
 pub put_line-requires : goal.put_line-requires

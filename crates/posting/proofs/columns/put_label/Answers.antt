@@ -2,7 +2,6 @@
 use mathlib.Core.Path.{sym, ◌∙◌}
 use mir.Facts.{to_z-of_z}
 use Rattle.posting.proofs.Labels.{few_digits, number_aligned, none_aligned}
-use borrow.Author.Rules.{rules}
 use Rattle.posting.proofs.columns.put_label.Goals as goal
 
 pub number-requires : goal.number-requires

@@ -1,6 +1,5 @@
 -- `posting::lines::all_in_column` meets its contract.
 use mathlib.Core.Path.{refl}
-use Prim.Native.Nat.{◌-◌}
 use lib.ListN.{get_or}
 use lib.IntN.{pos}
 use mir.Facts.{to_z-of_z}

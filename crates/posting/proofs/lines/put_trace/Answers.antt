@@ -1,6 +1,6 @@
 -- `posting::lines::put_trace` meets its contract.
 use mathlib.Core.Path.{◌≡◌, refl, ◌∙◌}
-use Prim.Native.Nat.{◌+◌, ◌-◌}
+use Prim.Native.Nat.{◌+◌}
 use native.Mathlib.Omega.{arith}
 use lib.ListN.{get_or}
 use lib.IntN.{pos}
@@ -29,16 +29,15 @@ put_fix-k-requires c =
     }
 
 pub loop-f-preserved : goal.loop-f-preserved
-loop-f-preserved c =
-    (
-      trace_on _ _ _ _ _ _ c.loop-f-test.true
-          (rw
-          (to_z-of_z {w = w32} {z = get_or c.args.labels.now c.loop-f.f (pos 0)}
-          (sfits_of c.put_fix-arg-in-loop-f-1.given))
-          at c.put_fix-k.ensures)
-          c.loop-f.invariant.0,
-      c.put_fix-k.auto.out ∙ c.loop-f.invariant.1,
-    )
+loop-f-preserved c = (
+  trace_on _ _ _ _ _ _ c.loop-f-test.true
+      (rw
+      (to_z-of_z {w = w32} {z = get_or c.args.labels.now c.loop-f.f (pos 0)}
+      (sfits_of c.put_fix-arg-in-loop-f-1.given))
+      at c.put_fix-k.ensures)
+      c.loop-f.invariant.0,
+  c.put_fix-k.auto.out ∙ c.loop-f.invariant.1,
+)
 
 pub returns : goal.returns
 returns c = trace_end _ _ _ _ _ c.loop-f-test.false c.loop-f.invariant.0

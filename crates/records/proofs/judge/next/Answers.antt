@@ -1,5 +1,5 @@
 -- `records::judge::next` meets its contract.
-use Prim.Native.Nat.{suc, ◌+◌, ◌<◌, ◌≤◌}
+use Prim.Native.Nat.{suc, ◌<◌, ◌≤◌}
 use native.Mathlib.Numerals.{add-one}
 use native.Mathlib.Omega.{arith}
 use borrow.Author.Tests.{lt-ltb, le-ltb}
@@ -8,8 +8,7 @@ use Rattle.records.specs.StepsJudge.{next}
 use Rattle.records.proofs.judge.next.Goals as goal
 
 pub overflow_cast-lens : goal.overflow_cast-lens
-overflow_cast-lens c =
-    omega (arith, c.shared_slice_known-then-j-lens-1.given (c.args.s.trace + 1))
+overflow_cast-lens c = omega arith
 
 pub returns-then-j-lens : goal.returns-then-j-lens
 unfolding next

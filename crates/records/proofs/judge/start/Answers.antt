@@ -8,7 +8,7 @@ returns-then-lens-eq0 c =
     start_none c.args.lens.now c.if-lens-eq0.true c.no_times.ensures c.begin.ensures
 
 pub overflow_cast-lens : goal.overflow_cast-lens
-overflow_cast-lens c = omega (arith, c.shared_slice_known-2-1.given 0)
+overflow_cast-lens c = omega arith
 
 pub returns : goal.returns
 returns c =

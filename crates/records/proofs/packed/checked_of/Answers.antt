@@ -1,5 +1,6 @@
 -- `records::packed::checked_of` meets its contract.
 use borrow.Author.Tests.{ne_eqb}
+use native.Mathlib.Omega.{arith}
 use Rattle.records.specs.StepsJudge.{checked_of}
 use Rattle.records.proofs.packed.checked_of.Goals as goal
 
@@ -29,4 +30,6 @@ returns-in-16 c = rw c.in-16.is
 
 pub returns-in_default : goal.returns-in_default
 unfolding checked_of
-returns-in_default c = let h = c.in_default.rest in rw (ne_eqb _ 11 h.0.0.0.0.0.1, ne_eqb _ 12 h.0.0.0.0.1, ne_eqb _ 13 h.0.0.0.1, ne_eqb _ 14 h.0.0.1, ne_eqb _ 15 h.0.1, ne_eqb _ 16 h.1)
+returns-in_default c =
+    let n = c.args.number in
+    rw (ne_eqb n 11 (λ e. omega arith), ne_eqb n 12 (λ e. omega arith), ne_eqb n 13 (λ e. omega arith), ne_eqb n 14 (λ e. omega arith), ne_eqb n 15 (λ e. omega arith), ne_eqb n 16 (λ e. omega arith))

@@ -28,7 +28,7 @@ pub check_work-d-requires : goal.check_work-d-requires
 check_work-d-requires c =
     let few = counts_few _ _ _
     (accepts c.check_counts-c.ensures (says c.is_refused-3.ensures c.if-is_refused-3.false)) in
-    (few.few-fixes, few.few-places)
+    (few.few_fixes, few.few_places)
 
 pub returns-then-is_refused-4 : goal.returns-then-is_refused-4
 unfolding checks_from in_turn

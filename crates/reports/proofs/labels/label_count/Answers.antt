@@ -1,5 +1,4 @@
 -- `reports::labels::label_count` meets its contract.
-use Prim.Native.Nat.{◌-◌}
 use mir.Facts.{to_z-of_z}
 use borrow.Author.Rules.{sfits_of}
 use Rattle.reports.proofs.Upward.{count_start, count_on, count_end}

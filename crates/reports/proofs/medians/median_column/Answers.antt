@@ -1,6 +1,5 @@
 -- `reports::medians::median_column` meets its contract.
 use mathlib.Core.Path.{refl}
-use Prim.Native.Nat.{◌-◌}
 use native.Mathlib.Omega.{arith}
 use lib.ListN.{length-set}
 use Rattle.reports.specs.Labels.{labels_in}

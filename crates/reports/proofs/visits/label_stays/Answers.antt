@@ -10,6 +10,6 @@ returns c =
     let p = c.requires.0 in
     let f = c.all_stays-k in
     stays_labelled a.s (traces a.one.now (fixes a.xs.now a.ys.now a.times.now a.marks.now)) (length a.xs.now) f.result
-    a.px.now a.py.now a.pl.now a.floats.now f.new.1.1.1.1.1.1.0 a.words.now f.new.1.1.1.1.1.1.1.0
-    c.stay_labels.new.out f.auto.1.1.1.1.1.1.0 f.auto.1.1.1.1.1.1.1.0 p.floats-room
-    p.words-room f.ensures c.stay_labels.auto.out c.stay_labels.ensures
+    a.px.now a.py.now a.pl.now a.floats.now f.new.work a.words.now f.new.events
+    c.stay_labels.new.out f.auto.work f.auto.events p.floats_room
+    p.words_room f.ensures c.stay_labels.auto.out c.stay_labels.ensures

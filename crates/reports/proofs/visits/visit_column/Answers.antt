@@ -1,6 +1,5 @@
 -- `reports::visits::visit_column` meets its contract.
 use mathlib.Core.Path.{refl}
-use Prim.Native.Nat.{◌-◌}
 use native.Mathlib.Omega.{arith}
 use lib.ListN.{length-set}
 use Rattle.reports.specs.Visits.{visits_to}

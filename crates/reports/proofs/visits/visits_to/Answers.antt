@@ -1,5 +1,4 @@
 -- `reports::visits::visits_to` meets its contract.
-use Prim.Native.Nat.{◌-◌}
 use mir.Facts.{to_z-of_z}
 use borrow.Author.Rules.{sfits_of}
 use Rattle.reports.proofs.Counted.{counted_start, counted_on, counted_end}
