@@ -23,7 +23,7 @@ use Rattle.infomap.specs.Infomap.{rest, kept_grouping, run_infomap, relabel_dens
 use Rattle.neighbors.specs.Places.{Place}
 use Rattle.neighbors.specs.StepsPlaces.{stay_count}
 use Rattle.distance.specs.Distance.{Metric}
-use Rattle.neighbors.specs.Links.{link, linked, nodes}
+use Rattle.neighbors.specs.Links.{link, nodes}
 use Rattle.neighbors.proofs.Found.{Counted}
 use Rattle.neighbors.proofs.NodeList.{node_lt, node_linked, node_at, linked_link}
 use Rattle.exact_sums.proofs.Whole.{WholeWeights, Match, Alike}

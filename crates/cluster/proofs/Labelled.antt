@@ -7,7 +7,7 @@ use Prim.Native.Nat.{ℕ, zero, suc, ◌+◌, ◌<◌, ◌≤◌}
 use native.Mathlib.Omega.{arith}
 use borrow.Author.Tests.{eqb-true, eq-eqb}
 use lib.Dec.{eqb}
-use lib.IntN.{ℤ, pos, negsuc, pos-ne-negsuc}
+use lib.IntN.{ℤ, pos, pos-ne-negsuc}
 use lib.ListN.{length, get_or}
 use lib.Ieee.{Float}
 use Rattle.lists.specs.Lists.{minus_one, Has, upto, member, position}
@@ -25,7 +25,6 @@ use Rattle.infomap.specs.Infomap.{kept_grouping, run_infomap, relabel_dense}
 use Rattle.run_laws.proofs.Ways.{Joined}
 use Rattle.run_laws.proofs.Joined.{kept_joined}
 -- Named so that the example is checked before these lemmas.
-use Rattle.cluster.specs.Examples
 use Rattle.cluster.specs.Cluster.{node_network, label_count, place_label, cluster}
 use Rattle.cluster.proofs.NodeNetwork.{node_size, node_both, way_chain}
 use Rattle.cluster.proofs.Relabelled.{relabel_long, relabel_alike}

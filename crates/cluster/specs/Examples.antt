@@ -9,7 +9,7 @@ use Rattle.neighbors.specs.Places.{Place}
 use Rattle.neighbors.specs.Links.{apart, link, weight, linked, nodes, singles}
 use Rattle.neighbors.specs.Tables.{rows_of, table_of}
 use Rattle.map_state.specs.Network.{Network}
-use Rattle.map_state.specs.MapState.{count, delta_move}
+use Rattle.map_state.specs.MapState.{delta_move}
 use Rattle.codelength.specs.Codelength.{from_partition}
 use Rattle.scan.specs.Scan.{margin}
 use Rattle.infomap.specs.Facts.{run_computed}

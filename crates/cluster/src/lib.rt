@@ -1,5 +1,6 @@
 // Labels of places from the kept grouping of the nodes.
 #![tactic(auto)]
+
 ghost use Rattle.std.specs.Prelude.{◌≡◌, ◌*◌, ◌≤◌, length};
 ghost use Rattle.distance.specs.Distance.{euclidean};
 ghost use Rattle.neighbors.specs.Places.{places_in};

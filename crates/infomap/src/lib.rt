@@ -3,6 +3,7 @@
 // The slices are those of crate `map_state`; `best` holds the kept grouping. A `&mut` slice whose end a contract here does not state is work:
 // what it holds after the call is not read.
 #![tactic(auto)]
+
 ghost use Rattle.std.specs.Prelude.{◌≡◌, ◌+◌, ◌-◌, ◌*◌, ◌<◌, ◌≤◌, cond, length};
 ghost use Rattle.map_state.specs.Network.{network};
 ghost use Rattle.map_state.specs.Steps.{net_of, Rows};

@@ -13,7 +13,6 @@ use Rattle.stay.specs.Examples.{median_2_5}
 use Rattle.trace.specs.Trace.{time_of, fixes, total, traces, fix_count}
 use Rattle.stay.specs.Stays.{stay_medians, fix_medians, all_medians, all_fix_medians}
 use Rattle.neighbors.specs.Places.{same_place, sighted, sighted_all, places, place_of}
-use Rattle.neighbors.specs.Links.{link}
 use Rattle.rng.specs.Facts.{from_state_1, seeds_42_43}
 use Rattle.rng.specs.Rng.{seeded, next_u64}
 use Rattle.cluster.specs.Examples.{cluster_computed}

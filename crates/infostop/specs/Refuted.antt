@@ -12,7 +12,7 @@ use Rattle.float.specs.Root.{root}
 use Rattle.float.specs.Ln.{ln2}
 use Rattle.distance.specs.declared.Point.{Point}
 use Rattle.distance.specs.Distance.{euclidean, Metric}
-use Rattle.trace.specs.Trace.{Fix, fixes, fix_count}
+use Rattle.trace.specs.Trace.{Fix, fix_count}
 use Rattle.stay.specs.Stays.{stay_medians, fix_medians, all_medians, all_fix_medians}
 use Rattle.neighbors.specs.Places.{Place, same_place, sighted, sighted_all, places, place_of}
 use Rattle.neighbors.specs.Links.{apart, link, weight, linked, nodes}
@@ -20,7 +20,6 @@ use Rattle.neighbors.specs.Chains.{Chain, alone, step}
 use Rattle.neighbors.specs.Tables.{rows_of, table_of}
 use Rattle.rng.specs.Rng.{seeded}
 use Rattle.map_state.specs.Network.{Network}
-use Rattle.map_state.specs.MapState.{lowest}
 use Rattle.codelength.specs.Codelength.{add_module, terms_from, node_plogp_from, codelength_of, codelength}
 use Rattle.infomap.specs.declared.Mark.TheVariants.{Rest, Spent}
 use Rattle.infomap.specs.Facts.{linked_pair}

@@ -1,5 +1,6 @@
 // The fit: from settings and tracks to labels and a fitted model, with demand 3 in its contract.
 #![tactic(auto)]
+
 ghost use Rattle.trace.specs.Trace.{fixes, traces};
 ghost use Rattle.infostop.specs.Fit.{fit};
 ghost use Rattle.std.specs.Prelude.{length};

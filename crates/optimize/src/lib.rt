@@ -2,6 +2,7 @@
 //
 // The slices are those of crate `map_state`; `order` holds the round's order of visiting.
 #![tactic(auto)]
+
 ghost use Rattle.std.specs.Prelude.{◌≡◌, true, false, ◌+◌, ◌-◌, ◌<◌, length};
 ghost use Rattle.map_state.specs.Steps.{net_of, state_of, Sized, AtNode};
 ghost use Rattle.scan.specs.Steps.{answer_of, Testable};

@@ -13,7 +13,6 @@ use Rattle.lists.proofs.Tests.{clash}
 use Rattle.float.specs.Binary64.{infinity64}
 use Rattle.float.proofs.Order.{lt_asym, lt_trans, lt_irrefl, lt_numbers, lt_weak}
 use Rattle.map_state.specs.Network.{Network}
-use Rattle.codelength.specs.Codelength.{codelength}
 use Rattle.optimize.specs.Rounds.{optimize_partition}
 use Rattle.infomap.specs.Infomap.{Grouping, none_kept, trial_mark, keep, trials, best_of_three}
 use Rattle.run_laws.specs.KeptTrial.{generator_at, trial_at, trial_codelength, Lowest, IsKept}

@@ -1,7 +1,7 @@
 -- `optimize::pass` meets its contract. The loop: the pass over the nodes from i on, from the state so far, is the whole pass. Numbers grow by one a node at most.
 use mathlib.Core.Path.{refl, ◌∙◌}
 use native.Mathlib.Omega.{arith}
-use Prim.Native.Nat.{◌+◌, ◌-◌}
+use Prim.Native.Nat.{◌+◌}
 use Rattle.map_state.specs.Steps.{net_of}
 use Rattle.optimize.specs.Steps.{pass_of, asked}
 use Rattle.map_state.proofs.Rows.{sized_kept}
@@ -10,35 +10,32 @@ use Rattle.optimize.proofs.Numbers.{highest_le, act_asked_at_most, at_most_more}
 use Rattle.optimize.proofs.pass.Goals as goal
 
 pub loop-i-init : goal.loop-i-init
-loop-i-init c =
-    (
-      refl,
-      c.requires.0,
-      c.requires.1,
-      refl,
-      refl,
-      refl,
-      refl,
-      omega arith,
-      at_most_more 900000 (900000 + 0) c.args.partition.now (omega arith) c.requires.4,
-    )
+loop-i-init c = (
+  refl,
+  c.requires.0,
+  c.requires.1,
+  refl,
+  refl,
+  refl,
+  refl,
+  omega arith,
+  at_most_more 900000 (900000 + 0) c.args.partition.now (omega arith) c.requires.4,
+)
 
 pub ask-a-requires : goal.ask-a-requires
-ask-a-requires c =
-    (
-      c.loop-i.invariant.1,
-      node_in _ c.loop-i.partition _ c.loop-i.i c.wide-u.ensures c.requires.2 c.loop-i-test.true c.loop-i.invariant.3,
-      c.loop-i.invariant.2,
-      omega (arith, highest_le (900000 + c.loop-i.i) c.loop-i.partition c.loop-i.invariant.8, c.requires.3),
-    )
+ask-a-requires c = (
+  c.loop-i.invariant.1,
+  node_in _ c.loop-i.partition _ c.loop-i.i c.wide-u.ensures c.requires.2 c.loop-i-test.true c.loop-i.invariant.3,
+  c.loop-i.invariant.2,
+  omega (arith, highest_le (900000 + c.loop-i.i) c.loop-i.partition c.loop-i.invariant.8, c.requires.3),
+)
 
 pub act-w-requires : goal.act-w-requires
-act-w-requires c =
-    (
-      c.loop-i.invariant.1,
-      node_in _ c.loop-i.partition _ c.loop-i.i c.wide-u.ensures c.requires.2 c.loop-i-test.true c.loop-i.invariant.3,
-      c.loop-i.invariant.2,
-    )
+act-w-requires c = (
+  c.loop-i.invariant.1,
+  node_in _ c.loop-i.partition _ c.loop-i.i c.wide-u.ensures c.requires.2 c.loop-i-test.true c.loop-i.invariant.3,
+  c.loop-i.invariant.2,
+)
 
 pub overflow_add-i : goal.overflow_add-i
 overflow_add-i c =

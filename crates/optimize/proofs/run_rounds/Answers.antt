@@ -1,7 +1,5 @@
 -- `optimize::run_rounds` meets its contract. The loop: the rounds that are left, from the state so far, give the whole run. Numbers grow by 512 a round.
 use mathlib.Core.Path.{◌≡◌, refl, sym, ◌∙◌}
-use mathlib.Core.Bool.{true}
-use borrow.Author.Tests.{not-true, not-false}
 use native.Mathlib.Omega.{arith}
 use Prim.Native.Nat.{◌+◌, ◌*◌, ◌≤◌}
 use lib.ListN.{length}
@@ -13,20 +11,19 @@ use Rattle.optimize.proofs.Rounds.{rounds_on, rounds_rest, rounds_end, run_at_mo
 use Rattle.optimize.proofs.run_rounds.Goals as goal
 
 pub loop-left-init : goal.loop-left-init
-loop-left-init c =
-    (
-      refl,
-      c.requires.0.0,
-      c.requires.0.1,
-      refl,
-      refl,
-      refl,
-      refl,
-      refl,
-      omega (arith, c.requires.1),
-      at_most_more 512 _ c.args.partition.now (omega arith) c.requires.0.3,
-      refl,
-    )
+loop-left-init c = (
+  refl,
+  c.requires.0.0,
+  c.requires.0.1,
+  refl,
+  refl,
+  refl,
+  refl,
+  refl,
+  omega (arith, c.requires.1),
+  at_most_more 512 _ c.args.partition.now (omega arith) c.requires.0.3,
+  refl,
+)
 
 pub shape_of-partition-then-not-more : goal.shape_of-partition-then-not-more
 shape_of-partition-then-not-more c =

@@ -1,6 +1,5 @@
 -- `events::fix_labels` meets its contract.
 use mathlib.Core.Path.{refl, ap, ◌∙◌}
-use Prim.Native.Nat.{◌-◌}
 use native.Mathlib.Omega.{arith}
 use lib.ListN.{length-set}
 use Rattle.cluster.proofs.FixLabels.{fix_labelled, fixes_labelled}

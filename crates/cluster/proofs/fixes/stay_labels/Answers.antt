@@ -1,6 +1,5 @@
 -- `events::stay_labels` meets its contract.
 use mathlib.Core.Path.{refl, ◌∙◌}
-use Prim.Native.Nat.{◌-◌}
 use native.Mathlib.Omega.{arith}
 use lib.ListN.{length-set}
 use Rattle.cluster.proofs.FixLabels.{stays_start, stay_labelled, stays_labelled}

@@ -1,5 +1,4 @@
 -- `cluster::labels::label_count` meets its contract. The loop has m for the labels before node u.
-use Prim.Native.Nat.{◌-◌}
 use Rattle.cluster.proofs.LabelCount.{count_start, count_on, count_end}
 use Rattle.cluster.proofs.labels.label_count.Goals as goal
 

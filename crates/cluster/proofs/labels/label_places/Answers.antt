@@ -1,6 +1,5 @@
 -- `cluster::labels::label_places` meets its contract. The loop has labelled the places below i, u of them nodes.
 use mathlib.Core.Path.{refl, ◌∙◌}
-use Prim.Native.Nat.{◌-◌}
 use native.Mathlib.Omega.{arith}
 use lib.ListN.{length-set}
 use mir.Syntax.{w32}

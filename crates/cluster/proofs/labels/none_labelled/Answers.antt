@@ -1,7 +1,6 @@
 -- `cluster::labels::none_labelled` meets its contract. The labels before i are -1.
 use mathlib.Core.Path.{refl}
 use lib.IntN.{pos}
-use Prim.Native.Nat.{◌-◌}
 use lib.ListN.{get_or}
 use Rattle.cluster.proofs.NoneLabelled.{sign_read, none_hit, none_on, none_end}
 use Rattle.cluster.proofs.labels.none_labelled.Goals as goal
