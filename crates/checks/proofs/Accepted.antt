@@ -12,6 +12,7 @@ use Rattle.settings.specs.declared.refusal.Refusal.TheVariants.{TimeMark}
 use Rattle.settings.specs.declared.refusal.Checked.TheVariants.{Accepted}
 use Rattle.settings.specs.Checks.{each_of, each_from}
 -- Named so that the examples are checked before these lemmas.
+use Rattle.checks.specs.Examples
 use Rattle.checks.specs.Traces.{check_trace, check_size}
 use Rattle.checks.specs.Tracks.{check_lengths, check_counts, check_mark, check_contents, check_tracks, check_report_tracks}
 use Rattle.settings.proofs.Turns.{passed, turn_first, turn_rest, each_at, each_from_at}

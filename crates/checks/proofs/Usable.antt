@@ -19,6 +19,7 @@ use Rattle.trace.proofs.Fixes.{no_fix, point_at, time_at}
 use Rattle.settings.specs.declared.refusal.Refusal.TheVariants.{EmptyTrace, Coordinate, Timestamp, PartlyTimed, TimeOrder, CoordinateSize}
 use Rattle.settings.specs.declared.refusal.Checked.TheVariants.{Accepted}
 -- Named so that the examples are checked before these lemmas.
+use Rattle.checks.specs.Examples
 use Rattle.checks.specs.Traces.{finite_point, finite_time, untimed, partly_timed, above, above_first, in_time_order, check_fix, check_times, check_trace, check_fix_size, check_size}
 use Rattle.settings.proofs.Turns.{passed, turn_first, turn_rest, each_at}
 

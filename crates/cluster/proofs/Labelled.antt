@@ -25,6 +25,7 @@ use Rattle.infomap.specs.Infomap.{kept_grouping, run_infomap, relabel_dense}
 use Rattle.run_laws.proofs.Ways.{Joined}
 use Rattle.run_laws.proofs.Joined.{kept_joined}
 -- Named so that the example is checked before these lemmas.
+use Rattle.cluster.specs.Examples
 use Rattle.cluster.specs.Cluster.{node_network, label_count, place_label, cluster}
 use Rattle.cluster.proofs.NodeNetwork.{node_size, node_both, way_chain}
 use Rattle.cluster.proofs.Relabelled.{relabel_long, relabel_alike}

@@ -19,9 +19,10 @@ use Rattle.float.proofs.NearestWhole.{nearest_at_most}
 use Rattle.float.proofs.RoundLaws.{rounded_value}
 use Rattle.float.proofs.Exact.{Is, most, is_round}
 use Rattle.float.proofs.Order.{true→T}
+-- Named so that the examples are checked before these lemmas.
+use Rattle.distance.specs.Examples
 use Rattle.distance.specs.declared.Point.{Point}
 use Rattle.distance.specs.Limit.{limit, within, in_limit}
--- Named so that the examples are checked before these lemmas.
 use Rattle.distance.specs.Grid.{on_grid, point_on_grid}
 use Rattle.distance.proofs.Size.{round_within, within_mono}
 use Rattle.distance.proofs.Bound.{grid_limit, in_grid_limit}

@@ -8,6 +8,7 @@ use native.Mathlib.Omega.{arith}
 use lib.Arith.{digits_div}
 use lib.Ieee.Nearest.{div_same}
 -- Named so that the examples are checked before these lemmas.
+use Rattle.float.specs.Examples
 use Rattle.float.specs.Round.{nearest_whole}
 
 twice_pos : (c : ℕ) → 0 < c → 0 < 2 * c

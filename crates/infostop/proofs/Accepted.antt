@@ -27,6 +27,7 @@ use Rattle.checks.proofs.Lengths.{Agreed, lengths_agree, Counted, counts_few}
 use Rattle.checks.proofs.Unread.{SameMarked, same_fixes, same_check}
 use Rattle.stay.specs.Stays.{all_medians}
 -- Named so that the facts are checked before these lemmas.
+use Rattle.infostop.specs.Facts
 use Rattle.infostop.specs.Demand.{Given, Demand3}
 use Rattle.infostop.specs.Fit.{Fitted, Outcome, refused, fitted, unless_none, given_by, from_places, from_medians, fit_traces, unless_refused, fit}
 use Rattle.cluster.proofs.FixLabels.{fix_labels_length}

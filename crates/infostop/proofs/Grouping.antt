@@ -19,6 +19,7 @@ use Rattle.cluster.specs.Steps.{event_labels}
 use Rattle.settings.specs.declared.config.Config.{Config}
 use Rattle.settings.specs.declared.refusal.Refusal.TheVariants.{NoStop}
 -- Named so that the facts are checked before these lemmas.
+use Rattle.infostop.specs.Facts
 use Rattle.infostop.specs.Fit.{refused, fitted, unless_none}
 use Rattle.infostop.specs.declared.answer.Answer.{Answer}
 use Rattle.infostop.specs.declared.answer.Answer.TheVariants.{Labelled, Refused}

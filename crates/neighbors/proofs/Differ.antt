@@ -11,9 +11,9 @@ use lib.Ieee.{Float, binary64, to_bits}
 use Rattle.lists.proofs.Tests.{eqb_like}
 use Rattle.float.specs.Binary64.{same_bits}
 use Rattle.distance.specs.declared.Point.{Point}
-use Rattle.neighbors.specs.Places.{same_place, Place, sighted, sighted_all, places, no_place, place_at, AllDiffer}
-
 -- Named so that the example is checked before these lemmas.
+use Rattle.neighbors.specs.Examples
+use Rattle.neighbors.specs.Places.{same_place, Place, sighted, sighted_all, places, no_place, place_at, AllDiffer}
 
 bits_swap : (x y : Float) → same_bits x y ≡ same_bits y x
 unfolding same_bits

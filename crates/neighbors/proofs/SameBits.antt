@@ -7,8 +7,9 @@ use lib.Ieee.{Float, nan, binary64, ne, fits, to_bits}
 use lib.Ieee.Compare.{differs_from_itself}
 use Rattle.float.specs.Binary64.{same_bits}
 use Rattle.float.proofs.SameBits.{bits_same, same_bits_refl}
-use Rattle.neighbors.specs.Places.{same_place}
 -- Named so that the example is checked before these lemmas.
+use Rattle.neighbors.specs.Examples
+use Rattle.neighbors.specs.Places.{same_place}
 use Rattle.distance.specs.declared.Point.{Point}
 
 -- A NaN has the pattern of a NaN alone.

@@ -10,6 +10,7 @@ use Rattle.scan.specs.Scan.{scan, isolate}
 use Rattle.rng.specs.Rng.{Shuffled, shuffle, order}
 use Rattle.lists.specs.Lists.{upto}
 -- Named so that the examples are checked before these lemmas.
+use Rattle.optimize.specs.Examples
 use Rattle.optimize.specs.Rounds.{Pass, Run, pass, round, run_rounds, visits}
 use Rattle.optimize.specs.Steps.{last_visits_from, AtMost}
 use Rattle.rng.proofs.Visits.{order_length}

@@ -11,6 +11,7 @@ use lib.ListN.{length, length-append, replicate}
 use Rattle.text.specs.Bytes.{space}
 use Rattle.print.specs.Lines.{digits, decimal}
 -- Named so that the examples are checked before these lemmas.
+use Rattle.posting.specs.Examples
 use Rattle.posting.specs.Sheet.{right_aligned}
 use Rattle.posting.specs.Steps.{last_digit, front_digit}
 

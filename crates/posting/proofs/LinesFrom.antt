@@ -12,6 +12,7 @@ use Rattle.trace.specs.Trace.{total}
 use Rattle.print.specs.Steps.{Out, pushes}
 use Rattle.print.proofs.Pushes.{and_then}
 -- Named so that the examples are checked before these lemmas.
+use Rattle.posting.specs.Examples
 use Rattle.posting.specs.Sheet.{Entry, entry, entry_line, heading, trace_entries, entries, per_page}
 use Rattle.posting.specs.Steps.{lines_at, lines_from}
 

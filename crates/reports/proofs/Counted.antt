@@ -8,10 +8,10 @@ use native.Mathlib.Omega.{arith}
 use lib.IntN.{ℤ, pos}
 use lib.ListN.{length, get_or, drop, drop_of_length-le}
 use lib.Seq.{drop-cons}
+-- Named so that the examples are checked before these lemmas.
+use Rattle.reports.specs.Examples
 use Rattle.reports.specs.Labels.{is_label}
 use Rattle.reports.specs.Visits.{visits_to}
-
--- Named so that the examples are checked before these lemmas.
 
 -- n of those before place i, and what is still to come, are all.
 abbrev pub CountedTo : List ℤ → ℕ → ℕ → ℕ → Type 0

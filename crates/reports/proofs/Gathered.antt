@@ -13,10 +13,10 @@ use Rattle.stay.specs.StepsOrdered.{in_order}
 use Rattle.stay.specs.Ordered.{insert_ordered, ordered_from, ordered, median}
 use Rattle.stay.proofs.Ordered.{insert_length, insert_in_order}
 use Rattle.lists.proofs.Parts.{lent, back, lent_first}
+-- Named so that the examples are checked before these lemmas.
+use Rattle.reports.specs.Examples
 use Rattle.reports.specs.Labels.{is_label}
 use Rattle.reports.specs.LabelMedians.{with_label, label_median}
-
--- Named so that the examples are checked before these lemmas.
 
 -- Behind an insertion the front is one longer.
 pub inserted : (g h : List Float) (n : ℕ) (v : Float) → n < length g → h ≡ insert_ordered v (take n g) ++ drop (n + 1) g → take (n + 1) h ≡ insert_ordered v (take n g)

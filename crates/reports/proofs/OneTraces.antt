@@ -20,11 +20,12 @@ use Rattle.trace.proofs.Parts.{trace_at, fixes_lent}
 use Rattle.cluster.specs.FixLabels.{stay_labels}
 use Rattle.infostop.specs.declared.model.Infostop.{Infostop}
 use Rattle.lists.proofs.Parts.{lent, lent_length}
+-- Named so that the examples are checked before these lemmas.
+use Rattle.reports.specs.Examples
 use Rattle.reports.specs.Reports.{place_count}
 use Rattle.reports.specs.View.{trace_start}
 use Rattle.reports.specs.Visits.{model_places, visited_labels, trace_fixes}
 use Rattle.reports.specs.Steps.{OneTrace, medians_of, LabelledStays, VisitsAsked}
--- Named so that the examples are checked before these lemmas.
 use Rattle.reports.proofs.Starts.{start_within}
 use Rattle.reports.proofs.Held.{held_part, held_length}
 

@@ -9,10 +9,11 @@ use lib.Ieee.{Float, le, lt, of_bits}
 use Rattle.lists.proofs.Tests.{or_left, or_right}
 use Rattle.float.specs.Binary64.{zero64, whole64, finite}
 use Rattle.float.proofs.Order.{le_is, finite_number}
+-- Named so that the examples are checked before these lemmas.
+use Rattle.settings.specs.Examples
 use Rattle.settings.specs.declared.config.Config.{Config}
 use Rattle.settings.specs.declared.refusal.Refusal.TheVariants.{R1, R2, MinStayingTime, MaxTimeBetween, TimeBounds, MinSize, MinSpatialResolution, ResolutionBounds}
 use Rattle.settings.specs.declared.refusal.Checked.TheVariants.{Accepted}
--- Named so that the examples are checked before these lemmas.
 use Rattle.settings.specs.Settings.{unusable, least, negative, out_of_bounds, check_time_bounds, check_resolution, check_config}
 use Rattle.settings.proofs.Turns.{passed, turn_first, turn_rest}
 

@@ -14,11 +14,12 @@ use lib.Ieee.{Float, nan, le}
 use Rattle.distance.specs.declared.Point.{Point}
 use Rattle.distance.specs.Grid.{point_on_grid}
 use Rattle.settings.specs.declared.config.Config.{Config}
+-- Named so that the examples are checked before these lemmas.
+use Rattle.stay.specs.Examples
 use Rattle.stay.specs.Ordered.{ordered, insert_ordered, median}
 use Rattle.trace.specs.Trace.{Fix}
 use Rattle.stay.specs.Stays.{middle, stay_median, since, first_time, last_time, joins, is_stay, groups_from, medians_of}
 use Rattle.stay.specs.StepsEvents.{event_number, events_from}
--- Named so that the examples are checked before these lemmas.
 use Rattle.stay.specs.Steps.{State, mid_of, with_point, closed_as, closed, step, join_test, stay_test, elapsed}
 use Rattle.stay.proofs.Ordered.{ordered_more}
 use Rattle.stay.proofs.States.{step_joins, step_closes}

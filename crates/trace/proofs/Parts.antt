@@ -10,6 +10,7 @@ use lib.Seq.{drop-cons, drop-drop}
 use lib.Ieee.{Float}
 use Rattle.lists.proofs.Parts.{lent}
 -- Named so that the examples are checked before these lemmas.
+use Rattle.trace.specs.Examples
 use Rattle.trace.specs.Trace.{Fix, time_of, fixes, total, traces}
 
 pub total_drop : (ns : List ℕ) (k : ℕ) → k < length ns → total (drop k ns) ≡ get_or ns k 0 + total (drop (k + 1) ns)

@@ -4,10 +4,11 @@ use mathlib.Core.Bool.{Bool, true, false, cond}
 use lib.Ieee.{Float, lt}
 use Rattle.float.specs.Binary64.{zero64, mul64, div64}
 use Rattle.float.specs.Round.{round_ties_away}
+-- Named so that the examples are checked before this proof.
+use Rattle.distance.specs.Examples
 use Rattle.distance.specs.Grid.{on_grid}
 use Rattle.distance.proofs.grid.on_grid.Goals as goal
 
--- Named so that the examples are checked before this proof.
 grid_on : (c res r : Float) → lt zero64 res ≡ true → r ≡ round_ties_away (div64 c res) → mul64 r res ≡ on_grid res c
 unfolding on_grid
 grid_on c res r h e = ap (λ (v : Float). mul64 v res) e ∙ sym (ap (λ (t : Bool). cond t (mul64 (round_ties_away (div64 c res)) res) c) h)
