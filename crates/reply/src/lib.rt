@@ -1,5 +1,6 @@
 // From a text in the house form to the text of the answer: parser, fit and printer together.
 #![tactic(auto)]
+
 ghost use Rattle.std.specs.Prelude.{List, ℕ};
 ghost use Rattle.text.specs.Values.{columns};
 ghost use Rattle.print.specs.Written.{Writes};

@@ -1,9 +1,11 @@
 // The program `stops`: reads a text in the house form on standard input, and prints the labels, a line for each fix, or the refusal.
 #![tactic(auto)]
+
 use reply::Form;
 
-fn main() {
+fn main(rt: HostRuntime) {
+    let mut stdin = rt.stdin();
     let mut out = [0u8; 49152];
-    let n = program::answer_input(Form::Lines, &mut out);
+    let n = program::answer_input(&mut stdin, Form::Lines, &mut out);
     program::write_answer(&out[0..n]);
 }
