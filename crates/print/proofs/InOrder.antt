@@ -13,6 +13,8 @@ use Rattle.text.proofs.TracesRise.{TracesRise}
 use Rattle.text.proofs.Lengths.{with_next, with_last}
 use Rattle.text.proofs.Pieces.{rises}
 use Rattle.settings.specs.declared.config.Config.{Config}
+-- Named so that the facts are checked before these lemmas.
+use Rattle.print.specs.Facts
 use Rattle.print.specs.Lines.{line, trace_lines, lines, label_names, labels_text}
 
 -- The printed lines in the order of the fixes: each with its trace, its number within the trace, and its label. After fixes in traces of the lengths ns:

@@ -5,6 +5,8 @@ use Rattle.lists.proofs.Tests.{and_left, and_right, or_true, clash}
 use Rattle.text.specs.declared.state.State.{State}
 use Rattle.text.specs.Bytes.{is_digit}
 use Rattle.text.specs.Fields.{Field, number, dash, bad, all_digits, size_from, digits_of, after_minus, field_of, size_of}
+-- Named so that the facts are checked before these lemmas.
+use Rattle.text.specs.Facts
 use Rattle.text.specs.Machine.{refused, begun, signed, grown, field_byte, field_sign}
 
 -- The bytes of a field.
