@@ -1,12 +1,16 @@
 // For the programs that replay recorded answers: unsigned decimal numbers read from a text, and answers printed.
 #![tactic(auto)]
+
 ghost use Rattle.std.specs.Prelude.{◌≡◌, true, ◌+◌, length, drop, replicate};
 ghost use Rattle.std.specs.Float.{binary64};
 ghost use Rattle.std.specs.Float.Ieee.{of_bits, to_bits};
 ghost use Rattle.replay.specs.Same.{all_floats, same_word, all_words, all_bytes};
 ghost use Rattle.replay.specs.Numbers.{is_digit, with_digit, digits, value, start, value_at, after};
 
-use libc::STDOUT_FILENO;
+// Where a program reads its input and prints its output.
+pub const STDIN_FILENO: i32 = 0;
+
+pub const STDOUT_FILENO: i32 = 1;
 
 // Room for a list: 1,000,000 zeros. The length is said beside them, since lending the array as a slice asks for it.
 pub fn room() -> [u8; 1000000]
@@ -29,6 +33,7 @@ fn is_digit(b: u8) -> bool
 }
 
 // n with the digit b after it, or 0 where that takes more than 64 bits.
+#[tactic(auto, using(crate::proofs::Digits::digit_fits, crate::proofs::Digits::digit_over))]
 fn with_digit(n: u64, b: u8) -> u64
     requires { is_digit b ≡ true }
     ensures { result ≡ with_digit n b }

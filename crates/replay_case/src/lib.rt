@@ -1,5 +1,6 @@
 // For the programs that run fits: settings, trace lengths and fixes, read from a list of unsigned decimal numbers, and a refusal printed.
 #![tactic(auto)]
+
 ghost use Rattle.std.specs.Prelude.{◌≡◌, ◌+◌, ◌≤◌, min, set};
 ghost use Rattle.std.specs.Float.{binary64};
 ghost use Rattle.std.specs.Float.Ieee.{of_bits};

@@ -3,12 +3,13 @@
 // of each one's x and y with its label, the mark (0 rest, 1 spent, 2 none kept) and the rounds; then the number of labels, and the bits of the
 // x and y of each label's median, in rising label. There is room for 256 traces and 256 fixes.
 #![tactic(auto)]
+
 ghost use Rattle.std.specs.Prelude.{◌≤◌, length};
 
 use infomap::Mark;
 use infostop::answer::Answer;
 use infostop::model::Infostop;
-use libc::{STDIN_FILENO, STDOUT_FILENO};
+use replay::{STDIN_FILENO, STDOUT_FILENO};
 use reports::answer::Reported;
 use settings::config::Config;
 use settings::refusal::Checked;

@@ -1,6 +1,7 @@
 // Replays a list of cases `op x`, x as its bits: op 0 is sqrt, 1 ln, 2 plogp and 3 round. Prints the bits of each answer.
 #![tactic(auto)]
-use libc::STDIN_FILENO;
+
+use replay::STDIN_FILENO;
 
 fn answer(op: u64, x: f64) -> f64 {
     if op == 0 {

@@ -1,11 +1,12 @@
 // Replays a list of cases `seed n k`, n up to 64, each followed by k links `a b w`, w as its bits. Prints the mark (0 rest,
 // 1 spent, 2 none kept), the rounds and the bits of the codelength, then each node's label.
 #![tactic(auto)]
+
 ghost use Rattle.std.specs.Prelude.{◌≤◌, length};
 ghost use Rattle.map_state.specs.Steps.{Rows};
 
 use infomap::{Kept, Mark};
-use libc::STDIN_FILENO;
+use replay::STDIN_FILENO;
 
 // Writes the weight from a to b, of 64 nodes.
 fn put(table: &mut [f64], a: u64, b: u64, w: f64) {

@@ -1,5 +1,6 @@
 // For the programs that tell whether a fit left a model as it was: a model that a fit has altered before, the comparison, and the answer printed.
 #![tactic(auto)]
+
 ghost use Rattle.std.specs.Prelude.{◌≡◌, ◌&&◌};
 ghost use Rattle.float.specs.Binary64.{same_bits};
 ghost use Rattle.replay_model.specs.SameModel.{same_flag, same_floats, same_words, same_config, same_model};

@@ -1,11 +1,12 @@
 // Replays a list of cases `r2 n`, then n times `x y`: medians in order, floats as their bits. Prints the places and their counts, the place
 // of each median, the links, read from the compacted table, and the nodes.
 #![tactic(auto)]
+
 ghost use Rattle.std.specs.Prelude.{◌*◌, ◌≤◌, length};
 
 use distance::Point;
-use libc::STDIN_FILENO;
 use neighbors::places::PlaceCount;
+use replay::STDIN_FILENO;
 
 // No case has more medians.
 const MOST: usize = 128;

@@ -3,7 +3,8 @@
 // number of fixes and of traces, and x, y, time and mark of its last fix and the length of its last trace. The answers are written by hand from
 // docs/RULES.md.
 #![tactic(auto)]
-use libc::STDIN_FILENO;
+
+use replay::STDIN_FILENO;
 use text::{Input, Parsed};
 
 fn lens_kept(s: &[u32]) -> bool {

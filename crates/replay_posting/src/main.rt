@@ -5,10 +5,11 @@
 // far as the sheet goes. oracle/sheets writes the list, and works the answers out from the words of docs/RULES.md,
 // "Posting sheet".
 #![tactic(auto)]
+
 ghost use Rattle.std.specs.Prelude.{◌≡◌, length};
 
-use libc::{STDIN_FILENO, STDOUT_FILENO};
 use posting::Posted;
+use replay::{STDIN_FILENO, STDOUT_FILENO};
 
 mod read;
 

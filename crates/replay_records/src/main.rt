@@ -5,13 +5,14 @@
 // the model, the work slices, the columns and the marks; where columns or marks are not, the columns' first 12 and the first 4 marks. The answers
 // of the list are written by hand from docs/RULES.md.
 #![tactic(auto)]
+
 ghost use Rattle.std.specs.Prelude.{◌≡◌, ◌≤◌, length};
 
 use distance::Point;
 use infostop::answer::Fit;
 use infostop::model::Infostop;
-use libc::STDIN_FILENO;
 use records::FixRecord;
+use replay::STDIN_FILENO;
 use settings::config::Config;
 
 // Settings, `places`, the lengths of the slices lent, the number of traces, and the place after them.
@@ -51,7 +52,7 @@ fn read_case(text: &[u8], at: usize) -> Case {
     }
 }
 
-// Lends four records to the fit. It has a slice of records, so its proof is a walk by hand.
+// Lends four records to the fit.
 fn fit_four(
     model: Infostop,
     four: [FixRecord; 4],

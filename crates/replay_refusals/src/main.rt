@@ -5,8 +5,9 @@
 // `0 0`; 1 where the labels are as they were, else 0; the same of the model, its settings too, bit for bit; the same of the work slices, and 2
 // where what they hold is free; the number of places in the model. The answers of the list are written by hand from docs/RULES.md.
 #![tactic(auto)]
+
 use infostop::answer::Answer;
-use libc::STDIN_FILENO;
+use replay::STDIN_FILENO;
 use settings::config::Config;
 
 // The lengths of the slices lent, `places` and the number of traces, and the place after them.

@@ -1,9 +1,10 @@
 // Replays a list of cases `seed n k`. Prints the first k outputs of a generator from the seed, then the numbers 0 to n - 1
 // shuffled by another one from the seed, n up to 512, and the state that this one ends in.
 #![tactic(auto)]
+
 ghost use Rattle.std.specs.Prelude.{◌≤◌, length};
 
-use libc::STDIN_FILENO;
+use replay::STDIN_FILENO;
 
 fn print_outputs(seed: u64, k: u64) {
     let mut x = rng::seeded(seed);

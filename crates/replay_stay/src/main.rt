@@ -1,10 +1,11 @@
 // Replays a list of cases `r1 min_size min_staying_time max_time_between resolution n` and n times `x y mark time`, floats as their bits. Prints,
 // for each case, the stay number of each fix, the number of stays, and the bits of each stay's median on the grid.
 #![tactic(auto)]
+
 ghost use Rattle.std.specs.Prelude.{◌≡◌, length};
 ghost use Rattle.replay_stay.specs.Steps.{Room};
 
-use libc::STDIN_FILENO;
+use replay::STDIN_FILENO;
 use settings::config::Config;
 
 fn print_events(events: &[i32]) {

@@ -1,7 +1,8 @@
 // Replays a list of texts in the program's form, damaged ones among them. A text is its number of bytes, a line feed, the bytes and a line feed.
 // Prints the answer to each, and an empty line.
 #![tactic(auto)]
-use libc::{STDIN_FILENO, STDOUT_FILENO};
+
+use replay::{STDIN_FILENO, STDOUT_FILENO};
 use reply::Form;
 
 fn answer(text: &[u8]) {

@@ -7,12 +7,13 @@
 // the output arrays of 8 items, of which a part is lent, and which hold 7, or a float of bits 7, before; after the visits 1 where the work slices are as they were, else 0, and
 // 2 where they are free. The view is the number of the refusal, and the part.
 #![tactic(auto)]
+
 ghost use Rattle.std.specs.Prelude.{◌≤◌, length};
 ghost use Rattle.replay_visits.specs.Steps.{Columns, Within};
 
 use crate::read::Sizes;
 use infostop::model::Infostop;
-use libc::{STDIN_FILENO, STDOUT_FILENO};
+use replay::{STDIN_FILENO, STDOUT_FILENO};
 use reports::answer::Reported;
 use settings::config::Config;
 

@@ -1,6 +1,5 @@
 -- `replay::all_bytes` meets its contract: what is left decides.
 use mathlib.Core.Path.{refl, ◌∙◌}
-use Prim.Native.Nat.{◌-◌}
 use native.Mathlib.Omega.{arith}
 use Rattle.replay.proofs.All.{bytes_on, bytes_stop, bytes_end}
 use Rattle.replay.proofs.all_bytes.Goals as goal

@@ -1,6 +1,5 @@
 -- `replay::all_floats` meets its contract: what is left decides.
 use mathlib.Core.Path.{refl, sym, ◌∙◌}
-use Prim.Native.Nat.{◌-◌}
 use native.Mathlib.Omega.{arith}
 use Rattle.replay.proofs.All.{floats_on, floats_stop, floats_end}
 use Rattle.replay.proofs.all_floats.Goals as goal

@@ -1,6 +1,5 @@
 -- `replay::first_digit` meets its contract: the first digit after each byte passed is that after `at`.
 use mathlib.Core.Path.{sym, ◌∙◌}
-use Prim.Native.Nat.{◌-◌}
 use native.Mathlib.Omega.{arith}
 use Rattle.replay.proofs.Digits.{before_on, before_stop, before_end}
 use Rattle.replay.proofs.first_digit.Goals as goal

@@ -20,11 +20,3 @@ returns-then-n-lt1844674407370955161 c =
 pub returns-then-n-gt1844674407370955161 : goal.returns-then-n-gt1844674407370955161
 returns-then-n-gt1844674407370955161 c =
     digit_over c.args.n c.args.b (omega arith)
-
-pub returns-then-d-lt6 : goal.returns-then-d-lt6
-returns-then-d-lt6 c =
-    digit_fits c.args.n c.args.b (omega arith)
-
-pub returns-else-d-lt6 : goal.returns-else-d-lt6
-returns-else-d-lt6 c =
-    digit_over c.args.n c.args.b (omega arith)

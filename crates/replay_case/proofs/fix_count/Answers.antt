@@ -1,6 +1,6 @@
 -- `replay_case::fix_count` meets its contract: what is counted and what is left make the sum.
 use mathlib.Core.Path.{ap, ◌∙◌}
-use Prim.Native.Nat.{ℕ, ◌+◌, ◌-◌, min}
+use Prim.Native.Nat.{ℕ, ◌+◌, min}
 use native.Mathlib.Omega.{arith}
 use lib.ListN.{drop}
 use Rattle.trace.specs.Trace.{total}

@@ -1,9 +1,8 @@
 -- `replay_model::same_floats` meets its contract: what is left decides.
 use mathlib.Core.Path.{refl, sym, ◌∙◌}
-use Prim.Native.Nat.{◌<◌, ◌-◌}
+use Prim.Native.Nat.{◌<◌}
 use native.Mathlib.Omega.{arith}
 use lib.ListN.{length}
-use borrow.Author.Tests.{not-true, not-false}
 use Rattle.replay_model.proofs.Same.{floats_differ, floats_on, floats_stop, floats_end}
 use borrow.Author.Rules.{rules}
 use Rattle.replay_model.proofs.same_floats.Goals as goal
@@ -20,7 +19,7 @@ returns-then-not-same_float c =
     let b = c.args.b.now in
     let shorter = c.loop-i-test.true in
     let other : c.loop-i.i < length b = omega (arith, shorter, c.if-a-b.false) in
-    floats_stop a b c.loop-i.i shorter other (sym c.same_float.ensures ∙ not-true _ c.if-not-same_float.true) ∙ c.loop-i.invariant.0
+    floats_stop a b c.loop-i.i shorter other (sym c.same_float.ensures ∙ c.if-not-same_float.true) ∙ c.loop-i.invariant.0
 
 pub loop-i-preserved : goal.loop-i-preserved
 loop-i-preserved c =
@@ -28,7 +27,7 @@ loop-i-preserved c =
     let b = c.args.b.now in
     let shorter = c.loop-i-test.true in
     let other : c.loop-i.i < length b = omega (arith, shorter, c.if-a-b.false) in
-    (floats_on a b c.loop-i.i shorter other (sym c.same_float.ensures ∙ not-false _ c.if-not-same_float.false) ∙ c.loop-i.invariant.0, search rules)
+    (floats_on a b c.loop-i.i shorter other (sym c.same_float.ensures ∙ c.if-not-same_float.false) ∙ c.loop-i.invariant.0, search rules)
 
 pub returns : goal.returns
 returns c =

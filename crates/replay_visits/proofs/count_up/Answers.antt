@@ -1,5 +1,4 @@
 -- `replay_visits::count_up` is safe and ends.
-use Prim.Native.Nat.{◌-◌}
 use native.Mathlib.Omega.{arith}
 use lib.ListN.{length-set}
 use Rattle.replay_visits.proofs.count_up.Goals as goal
