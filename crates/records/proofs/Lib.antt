@@ -1,3 +1,4 @@
+pub mod Loan
 pub mod Steps
 pub mod Columns
 pub mod OpenTrace

@@ -1,5 +1,4 @@
--- A list of traces with the empty ones taken out, and the number of a trace in it. Definitions only; what a fit then answers is
--- infostop/proofs/WithoutEmpty.antt.
+-- A list of traces with the empty ones taken out, and the number of a trace in it. Definitions only; their laws are proofs/WithoutEmpty.antt.
 use Rattle.std.specs.Prelude.{ℕ, not, List, eqb, length, take}
 use Rattle.lists.specs.Lists.{select}
 
