@@ -13,10 +13,6 @@ pub loop-t-init : goal.loop-t-init
 loop-t-init c =
     (refl, omega (arith, c.requires.sum), refl)
 
-pub overflow_cast-end : goal.overflow_cast-end
-overflow_cast-end c =
-    omega (arith, c.shared_slice_known-in-loop-t-1.given c.loop-t.t)
-
 pub overflow_add-end : goal.overflow_add-end
 overflow_add-end c =
     omega (arith, trace_fits _ _ _ _ c.loop-t-test.true c.loop-t.invariant.1)

@@ -6,7 +6,8 @@ use lib.ListN.{get_or}
 use lib.IntN.{pos}
 use mir.Facts.{to_z-of_z}
 use mir.Syntax.{w32}
-use borrow.Author.Rules.{sfits_of}
+use mir.Val.{SFits}
+use borrow.Author.Rules.{rules}
 use Rattle.posting.proofs.LinesFrom.{trace_on, trace_end}
 use Rattle.posting.proofs.Within.{label_at}
 use Rattle.posting.proofs.lines.put_trace.Goals as goal
@@ -19,9 +20,10 @@ loop-f-init c =
 
 pub put_fix-k-requires : goal.put_fix-k-requires
 put_fix-k-requires c =
+    let fits : SFits w32 (get_or c.args.labels.now c.loop-f.f (pos 0)) = search rules in
     let labels = c.args.labels.now in
     let f = c.loop-f.f in
-    rw (to_z-of_z {w = w32} {z = get_or labels f (pos 0)} (sfits_of c.put_fix-arg-in-loop-f-1.given))
+    rw (to_z-of_z {w = w32} fits)
     record {
       trace_within = c.requires.few_traces;
       fix_within = omega (arith, c.requires.few_fixes, c.loop-f-test.true);
@@ -29,15 +31,13 @@ put_fix-k-requires c =
     }
 
 pub loop-f-preserved : goal.loop-f-preserved
-loop-f-preserved c = (
-  trace_on _ _ _ _ _ _ c.loop-f-test.true
-      (rw
-      (to_z-of_z {w = w32} {z = get_or c.args.labels.now c.loop-f.f (pos 0)}
-      (sfits_of c.put_fix-arg-in-loop-f-1.given))
-      at c.put_fix-k.ensures)
-      c.loop-f.invariant.0,
-  c.put_fix-k.auto.out ∙ c.loop-f.invariant.1,
-)
+loop-f-preserved c =
+    let fits : SFits w32 (get_or c.args.labels.now c.loop-f.f (pos 0)) = search rules in (
+      trace_on _ _ _ _ _ _ c.loop-f-test.true
+          (rw (to_z-of_z {w = w32} fits) at c.put_fix-k.ensures)
+          c.loop-f.invariant.0,
+      c.put_fix-k.auto.out ∙ c.loop-f.invariant.1,
+    )
 
 pub returns : goal.returns
 returns c = trace_end _ _ _ _ _ c.loop-f-test.false c.loop-f.invariant.0
