@@ -5,6 +5,7 @@ ghost use Rattle.std.specs.Prelude.{◌≡◌};
 ghost use Rattle.trace.specs.Steps.{all_marked};
 
 // Whether all marks are 1.
+#[tactic(auto, using(crate::proofs::Marks::marked_on, crate::proofs::Marks::marked_stop))]
 pub fn all_marked(marks: &[u8]) -> bool
     ensures { result ≡ all_marked marks.now }
 {
