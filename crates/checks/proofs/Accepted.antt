@@ -8,8 +8,8 @@ use lib.Dec.{ltb}
 use lib.ListN.{length, get_or, drop}
 use lib.Ieee.{Float}
 use Rattle.trace.specs.Trace.{Fix, fixes, traces}
+use Rattle.std.specs.Prelude.{Ok}
 use Rattle.settings.specs.declared.refusal.Refusal.TheVariants.{TimeMark}
-use Rattle.settings.specs.declared.refusal.Checked.TheVariants.{Accepted}
 use Rattle.settings.specs.Checks.{each_of, each_from}
 -- Named so that the examples are checked before these lemmas.
 use Rattle.checks.specs.Examples
@@ -41,13 +41,13 @@ unfolding traces
 length_traces [] fs = refl
 length_traces (n ∷ ns) fs = ap suc (length_traces ns (drop n fs))
 
-mark_small : (m : ℕ) → check_mark m ≡ Accepted → m ≤ 1
+mark_small : (m : ℕ) → check_mark m ≡ Ok tt → m ≤ 1
 unfolding check_mark
 mark_small m e = ltb-false 1 m (passed (ltb 1 m) TimeMark e)
 
 module _ (xs ys ts : List Float) (ms lens : List ℕ) where
-  accepted : (labels places : ℕ) → check_lengths lens (length xs) (length ys) (length ts) (length ms) labels ≡ Accepted → check_counts (length lens) (length xs) places ≡ Accepted
-      → check_contents xs ys ts ms lens ≡ Accepted → AcceptedTracks xs ys ts ms lens labels
+  accepted : (labels places : ℕ) → check_lengths lens (length xs) (length ys) (length ts) (length ms) labels ≡ Ok tt → check_counts (length lens) (length xs) places ≡ Ok tt
+      → check_contents xs ys ts ms lens ≡ Ok tt → AcceptedTracks xs ys ts ms lens labels
   accepted labels places a b d =
       let few = counts_few (length lens) (length xs) places b in
       record {
@@ -61,19 +61,19 @@ module _ (xs ys ts : List Float) (ms lens : List ℕ) where
       all : List (List Fix)
       all = traces lens (fixes xs ys ts ms)
 
-      marks : each_of check_mark ms ≡ Accepted
+      marks : each_of check_mark ms ≡ Ok tt
       marks = unfold check_contents in turn_first _ _ d
 
-      in_turn_lem : each_from check_trace 0 all ≡ Accepted
+      in_turn_lem : each_from check_trace 0 all ≡ Ok tt
       in_turn_lem = unfold check_contents in turn_first _ _ (turn_rest _ _ d)
 
-      sizes : each_from check_size 0 all ≡ Accepted
+      sizes : each_from check_size 0 all ≡ Ok tt
       sizes = unfold check_contents in turn_first _ _ (turn_rest _ _ (turn_rest _ _ d))
 
       inside : (k : ℕ) → k < length lens → k < length all
       inside k n = let e = length_traces lens (fixes xs ys ts ms) in omega arith
 
-  pub tracks_accepted : (labels places floats words : ℕ) → check_tracks xs ys ts ms lens labels places floats words ≡ Accepted → AcceptedFit xs ys ts ms lens labels places floats words
+  pub tracks_accepted : (labels places floats words : ℕ) → check_tracks xs ys ts ms lens labels places floats words ≡ Ok tt → AcceptedFit xs ys ts ms lens labels places floats words
   unfolding check_tracks
   tracks_accepted labels places floats words h =
       let a = turn_rest _ _ h in
@@ -86,7 +86,7 @@ module _ (xs ys ts : List Float) (ms lens : List ℕ) where
         roomy = work_long (length xs) places floats words (turn_first _ _ b);
       }
 
-  pub report_accepted : (floats words : ℕ) → check_report_tracks xs ys ts ms lens floats words ≡ Accepted → AcceptedTracks xs ys ts ms lens (length xs) × Roomy (length xs) 0 floats words
+  pub report_accepted : (floats words : ℕ) → check_report_tracks xs ys ts ms lens floats words ≡ Ok tt → AcceptedTracks xs ys ts ms lens (length xs) × Roomy (length xs) 0 floats words
   unfolding check_report_tracks
   report_accepted floats words h =
       let a = turn_rest _ _ h in

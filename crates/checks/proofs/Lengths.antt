@@ -6,10 +6,10 @@ use Prim.Native.Nat.{ℕ, ◌+◌, ◌*◌, ◌<◌, ◌≤◌}
 use native.Mathlib.Omega.{arith}
 use borrow.Author.Tests.{eqb-true, eqb-false, ltb-false, not-false}
 use lib.Dec.{eqb, ltb}
-use lib.ListN.{length}
+use lib.ListN.{length, drop, drop_of_length-le}
 use Rattle.lists.proofs.Tests.{and_left, and_right, or_left, or_right}
+use Rattle.std.specs.Prelude.{Ok}
 use Rattle.settings.specs.declared.refusal.Refusal.TheVariants.{NoTrace, Lengths, Counts, Work}
-use Rattle.settings.specs.declared.refusal.Checked.TheVariants.{Accepted}
 use Rattle.trace.specs.Trace.{total}
 use Rattle.checks.specs.Tracks.{same_lengths, check_lengths, check_counts, check_work}
 use Rattle.settings.proofs.Turns.{passed, turn_first, turn_rest}
@@ -23,7 +23,7 @@ pub record Agreed (lens : List ℕ) (n ys ts ms labels : ℕ) : Type 0 where
   pub labels_length : labels ≡ n
   pub sum : total lens ≡ n
 
-pub lengths_agree : (lens : List ℕ) (n ys ts ms labels : ℕ) → check_lengths lens n ys ts ms labels ≡ Accepted → Agreed lens n ys ts ms labels
+pub lengths_agree : (lens : List ℕ) (n ys ts ms labels : ℕ) → check_lengths lens n ys ts ms labels ≡ Ok tt → Agreed lens n ys ts ms labels
 unfolding check_lengths same_lengths
 lengths_agree lens n ys ts ms labels h =
     let two = eqb ys n && eqb ts n in
@@ -50,7 +50,7 @@ pub record Counted (traces fixes places : ℕ) : Type 0 where
   pub some_place : 1 ≤ places
   pub few_places : places ≤ 512
 
-pub counts_few : (traces fixes places : ℕ) → check_counts traces fixes places ≡ Accepted → Counted traces fixes places
+pub counts_few : (traces fixes places : ℕ) → check_counts traces fixes places ≡ Ok tt → Counted traces fixes places
 unfolding check_counts
 counts_few traces fixes places h =
     let two = ltb 256 traces || ltb 65536 fixes in
@@ -71,7 +71,7 @@ pub record Roomy (fixes places floats words : ℕ) : Type 0 where
   pub floats_length : 4 * fixes + places * places ≤ floats
   pub words_length : 4 * fixes + 8 * places ≤ words
 
-pub work_long : (fixes places floats words : ℕ) → check_work fixes places floats words ≡ Accepted → Roomy fixes places floats words
+pub work_long : (fixes places floats words : ℕ) → check_work fixes places floats words ≡ Ok tt → Roomy fixes places floats words
 unfolding check_work
 work_long fixes places floats words h =
     let p = ltb floats (4 * fixes + places * places) in
@@ -81,3 +81,8 @@ work_long fixes places floats words h =
       floats_length = ltb-false floats (4 * fixes + places * places) (or_left p q a);
       words_length = ltb-false words (4 * fixes + 8 * places) (or_right p q a);
     }
+
+-- Past the last trace there is nothing.
+pub total_end : (lens : List ℕ) (k : ℕ) → length lens ≤ k → total (drop k lens) ≡ 0
+unfolding total
+total_end lens k h = rw (drop_of_length-le lens {i = k} h)

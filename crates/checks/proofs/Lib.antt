@@ -1,5 +1,6 @@
 pub mod Columns
 pub mod TraceLoops
+pub mod MarkLoop
 pub mod Lengths
 pub mod Usable
 pub mod Accepted

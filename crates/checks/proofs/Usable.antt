@@ -16,8 +16,8 @@ use Rattle.float.proofs.Order.{le_is, finite_number}
 use Rattle.distance.specs.Limit.{in_limit}
 use Rattle.trace.specs.Trace.{Fix, timed}
 use Rattle.trace.proofs.Fixes.{no_fix, point_at, time_at}
+use Rattle.std.specs.Prelude.{Ok}
 use Rattle.settings.specs.declared.refusal.Refusal.TheVariants.{EmptyTrace, Coordinate, Timestamp, PartlyTimed, TimeOrder, CoordinateSize}
-use Rattle.settings.specs.declared.refusal.Checked.TheVariants.{Accepted}
 -- Named so that the examples are checked before these lemmas.
 use Rattle.checks.specs.Examples
 use Rattle.checks.specs.Traces.{finite_point, finite_time, untimed, partly_timed, above, above_first, in_time_order, check_fix, check_times, check_trace, check_fix_size, check_size}
@@ -44,16 +44,16 @@ not_partly t h = go (timed t) (untimed t) refl refl h
     go false true p q h = inr q
     go false false p q h = inl (p ∙ sym h)
 
-module _ (k : ℕ) (t : List Fix) (h : check_trace k t ≡ Accepted) (l : check_size k t ≡ Accepted) where
+module _ (k : ℕ) (t : List Fix) (h : check_trace k t ≡ Ok tt) (l : check_size k t ≡ Ok tt) where
   has_fix : 0 < length t
   unfolding check_trace
   has_fix = let a : (length t ≡ 0 → ⊥) = eqb-false (length t) 0 (passed (eqb (length t) 0) (EmptyTrace k) (turn_first _ _ h)) in omega arith
 
-  fix : (i : ℕ) → i < length t → check_fix k (get_or t i no_fix) ≡ Accepted
+  fix : (i : ℕ) → i < length t → check_fix k (get_or t i no_fix) ≡ Ok tt
   unfolding check_trace
   fix i n = each_at (check_fix k) t no_fix (turn_first _ _ (turn_rest _ _ h)) i n
 
-  times : check_times k t ≡ Accepted
+  times : check_times k t ≡ Ok tt
   unfolding check_trace
   times = turn_first _ _ (turn_rest _ _ (turn_rest _ _ h))
 

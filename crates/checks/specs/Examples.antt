@@ -1,14 +1,12 @@
 -- The checks of tracks, run at a few values: the order of the refusals, and the edges of each.
-use Rattle.std.specs.Prelude.{◌≡◌, refl, List, [], ◌∷◌, ℕ, length, replicate, Float}
+use Rattle.std.specs.Prelude.{◌≡◌, refl, List, [], ◌∷◌, ℕ, length, replicate, Float, Ok, Err}
 use Rattle.std.specs.Float.{nan}
 use Rattle.std.specs.Float.Ieee.{of_int, of_bits, lt}
 use Rattle.float.specs.Binary64.{whole64, zero64, infinity64, finite}
 use Rattle.distance.specs.Limit.{in_limit, within}
 use Rattle.trace.specs.Trace.{fixes, timed, total, traces}
 use Rattle.settings.specs.declared.refusal.Refusal.TheVariants.{NoTrace, Lengths, Coordinate, Timestamp, PartlyTimed, TimeOrder, CoordinateSize, TimeMark}
-use Rattle.settings.specs.declared.refusal.Checked.{Checked}
-use Rattle.settings.specs.declared.refusal.Checked.TheVariants.{Accepted, Refused}
-use Rattle.settings.specs.Checks.{refuse_if, first_of, in_turn, each_of, each_from}
+use Rattle.settings.specs.Checks.{Checked, refuse_if, first_of, in_turn, each_of, each_from}
 use Rattle.checks.specs.Traces.{finite_point, finite_time, check_fix, untimed, partly_timed, above, above_first, in_time_order, check_times, check_trace, check_fix_size, check_size}
 use Rattle.checks.specs.Tracks.{same_lengths, check_lengths, check_counts, check_work, check_mark, check_contents, check_tracks}
 
@@ -23,55 +21,55 @@ abbrev w : ℕ → Float
 w = whole64
 
 -- (0,0) twice at times 10 and 9; at equal times; one timed; none timed, with values that are not read
-falling : check (w 0 ∷ w 0 ∷ []) (w 10 ∷ w 9 ∷ []) (1 ∷ 1 ∷ []) (2 ∷ []) ≡ Refused (TimeOrder 0)
+falling : check (w 0 ∷ w 0 ∷ []) (w 10 ∷ w 9 ∷ []) (1 ∷ 1 ∷ []) (2 ∷ []) ≡ Err (TimeOrder 0)
 unfolding check
 falling = refl
 
-level : check (w 0 ∷ w 0 ∷ []) (w 9 ∷ w 9 ∷ []) (1 ∷ 1 ∷ []) (2 ∷ []) ≡ Accepted
+level : check (w 0 ∷ w 0 ∷ []) (w 9 ∷ w 9 ∷ []) (1 ∷ 1 ∷ []) (2 ∷ []) ≡ Ok tt
 unfolding check
 level = refl
 
-one_timed : check (w 0 ∷ w 0 ∷ []) (w 9 ∷ w 10 ∷ []) (0 ∷ 1 ∷ []) (2 ∷ []) ≡ Refused (PartlyTimed 0)
+one_timed : check (w 0 ∷ w 0 ∷ []) (w 9 ∷ w 10 ∷ []) (0 ∷ 1 ∷ []) (2 ∷ []) ≡ Err (PartlyTimed 0)
 unfolding check
 one_timed = refl
 
-unread : check (w 0 ∷ w 0 ∷ []) (nan ∷ infinity64 ∷ []) (0 ∷ 0 ∷ []) (2 ∷ []) ≡ Accepted
+unread : check (w 0 ∷ w 0 ∷ []) (nan ∷ infinity64 ∷ []) (0 ∷ 0 ∷ []) (2 ∷ []) ≡ Ok tt
 unfolding check
 unread = refl
 
 -- 12 comes before 13 at one fix, and 13 before a later fix's 12
-point_first : check (nan ∷ []) (nan ∷ []) (1 ∷ []) (1 ∷ []) ≡ Refused (Coordinate 0)
+point_first : check (nan ∷ []) (nan ∷ []) (1 ∷ []) (1 ∷ []) ≡ Err (Coordinate 0)
 unfolding check
 point_first = refl
 
-fix_by_fix : check (w 0 ∷ nan ∷ []) (infinity64 ∷ w 0 ∷ []) (1 ∷ 1 ∷ []) (2 ∷ []) ≡ Refused (Timestamp 0)
+fix_by_fix : check (w 0 ∷ nan ∷ []) (infinity64 ∷ w 0 ∷ []) (1 ∷ 1 ∷ []) (2 ∷ []) ≡ Err (Timestamp 0)
 unfolding check
 fix_by_fix = refl
 
 -- a size of exactly 10^9 is accepted
-at_limit : check (w 1000000000 ∷ []) (w 0 ∷ []) (0 ∷ []) (1 ∷ []) ≡ Accepted
+at_limit : check (w 1000000000 ∷ []) (w 0 ∷ []) (0 ∷ []) (1 ∷ []) ≡ Ok tt
 unfolding check
 at_limit = refl
 
 -- 16 comes after a later trace's 15, with the first trace that has it
-not_hidden : check (w 1000000001 ∷ w 0 ∷ w 0 ∷ []) (w 0 ∷ w 10 ∷ w 9 ∷ []) (0 ∷ 1 ∷ 1 ∷ []) (1 ∷ 2 ∷ []) ≡ Refused (TimeOrder 1)
+not_hidden : check (w 1000000001 ∷ w 0 ∷ w 0 ∷ []) (w 0 ∷ w 10 ∷ w 9 ∷ []) (0 ∷ 1 ∷ 1 ∷ []) (1 ∷ 2 ∷ []) ≡ Err (TimeOrder 1)
 unfolding check
 not_hidden = refl
 
-first_far : check (w 0 ∷ w 1000000001 ∷ w 1000000001 ∷ []) (w 0 ∷ w 0 ∷ w 0 ∷ []) (0 ∷ 0 ∷ 0 ∷ []) (1 ∷ 1 ∷ 1 ∷ []) ≡ Refused (CoordinateSize 1)
+first_far : check (w 0 ∷ w 1000000001 ∷ w 1000000001 ∷ []) (w 0 ∷ w 0 ∷ w 0 ∷ []) (0 ∷ 0 ∷ 0 ∷ []) (1 ∷ 1 ∷ 1 ∷ []) ≡ Err (CoordinateSize 1)
 unfolding check
 first_far = refl
 
 -- 17 comes before 11, which an earlier trace has
-mark_first : check (nan ∷ []) (w 0 ∷ []) (2 ∷ []) (0 ∷ 1 ∷ []) ≡ Refused TimeMark
+mark_first : check (nan ∷ []) (w 0 ∷ []) (2 ∷ []) (0 ∷ 1 ∷ []) ≡ Err TimeMark
 unfolding check
 mark_first = refl
 
 -- lengths that do not sum up, even past a word
-past_word : check (w 0 ∷ []) (w 0 ∷ []) (0 ∷ []) (18446744073709551616 ∷ 1 ∷ []) ≡ Refused Lengths
+past_word : check (w 0 ∷ []) (w 0 ∷ []) (0 ∷ []) (18446744073709551616 ∷ 1 ∷ []) ≡ Err Lengths
 unfolding check
 past_word = refl
 
-none : check [] [] [] [] ≡ Refused NoTrace
+none : check [] [] [] [] ≡ Err NoTrace
 unfolding check
 none = refl

@@ -3,9 +3,13 @@
 use Rattle.std.specs.Prelude.{ℕ, Bool, true, false, not, ◌&&◌, List, [], ◌∷◌, ◌≡◌, eqb, length, Float}
 use Rattle.std.proofs.Math.Option.{Option}
 use Rattle.trace.specs.Trace.{time_of, fixes, traces}
-use Rattle.settings.specs.declared.refusal.Checked.{Checked}
-use Rattle.settings.specs.Checks.{each_from}
+use Rattle.settings.specs.Checks.{Checked, in_turn, each_from}
 use Rattle.checks.specs.Traces.{above, check_times, check_size}
+use Rattle.checks.specs.Tracks.{check_lengths, check_counts, check_work, check_contents}
+
+-- The columns of fixes have one length.
+abbrev pub EqualLengths : List Float → List Float → List Float → List ℕ → Type 0
+EqualLengths xs ys ts ms = (length ys ≡ length xs) × (length ts ≡ length xs) × (length ms ≡ length xs)
 
 -- No mark is 1.
 unfoldable pub none_marked : List ℕ → Bool
@@ -22,6 +26,16 @@ unfoldable pub columns_in_order : List Float → List ℕ → Bool
 columns_in_order [] ms = true
 columns_in_order (t ∷ ts) [] = true
 columns_in_order (t ∷ ts) (m ∷ ms) = not (column_above (time_of m t) ts ms) && columns_in_order ts ms
+
+-- The checks of tracks in order, where 9 takes `counted` for the number of places and 10 takes `places`.
+unfoldable pub check_columns : List Float → List Float → List Float → List ℕ → List ℕ → ℕ → ℕ → ℕ → ℕ → ℕ → Checked
+check_columns xs ys ts ms lens labels counted places floats words =
+    in_turn
+    (check_lengths lens (length xs) (length ys) (length ts) (length ms) labels
+    ∷ check_counts (length lens) (length xs) counted
+    ∷ check_work (length xs) places floats words
+    ∷ check_contents xs ys ts ms lens
+    ∷ [])
 
 -- r answers 14 and 15 for the trace k with these times and marks, wherever its fixes are.
 abbrev pub TimesChecked : ℕ → List Float → List ℕ → Checked → Type 0

@@ -7,8 +7,7 @@ use Rattle.distance.specs.declared.Point.{Point}
 use Rattle.distance.specs.Limit.{in_limit}
 use Rattle.trace.specs.Trace.{Fix, has_time, timed}
 use Rattle.settings.specs.declared.refusal.Refusal.TheVariants.{EmptyTrace, Coordinate, Timestamp, PartlyTimed, TimeOrder, CoordinateSize}
-use Rattle.settings.specs.declared.refusal.Checked.{Checked}
-use Rattle.settings.specs.Checks.{refuse_if, in_turn, each_of}
+use Rattle.settings.specs.Checks.{Checked, refuse_if, in_turn, each_of}
 
 -- Both coordinates are finite.
 unfoldable pub finite_point : Point → Bool

@@ -3,8 +3,7 @@
 use Rattle.std.specs.Prelude.{ℕ, ◌+◌, ◌*◌, Bool, not, ◌&&◌, ◌||◌, List, [], ◌∷◌, eqb, ltb, length, Float}
 use Rattle.trace.specs.Trace.{total, traces, fixes}
 use Rattle.settings.specs.declared.refusal.Refusal.TheVariants.{NoTrace, Lengths, Counts, Work, TimeMark}
-use Rattle.settings.specs.declared.refusal.Checked.{Checked}
-use Rattle.settings.specs.Checks.{refuse_if, in_turn, each_of, each_from}
+use Rattle.settings.specs.Checks.{Checked, refuse_if, in_turn, each_of, each_from}
 use Rattle.checks.specs.Traces.{check_trace, check_size}
 
 -- The lengths of the fix slices and of the label slice.

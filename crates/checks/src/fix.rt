@@ -4,34 +4,26 @@ ghost use Rattle.trace.specs.Trace.{time_of};
 ghost use Rattle.checks.specs.Traces.{above, check_fix};
 
 use distance::Point;
-use settings::refusal::{Checked, Refusal};
+use settings::refusal::Refusal;
 
 // 12 and 13 of a fix of trace k.
-pub fn check_fix(k: usize, p: Point, mark: u8, time: f64) -> Checked
+#[tactic(auto, unfolding(crate::specs::Traces::check_fix, crate::specs::Traces::finite_point, crate::specs::Traces::finite_time, trace::specs::Trace::time_of, settings::proofs::Turns::turns))]
+pub fn check_fix(k: usize, p: Point, mark: u8, time: f64) -> Result<(), Refusal>
     ensures { result ≡ check_fix k record { at = p; time = time_of mark time } }
 {
-    if !float::is_finite(p.x) {
-        return Checked::Refused(Refusal::Coordinate(k));
+    if !(float::is_finite(p.x) && float::is_finite(p.y)) {
+        return Err(Refusal::Coordinate(k));
     }
-    if !float::is_finite(p.y) {
-        return Checked::Refused(Refusal::Coordinate(k));
+    if mark == 1 && !float::is_finite(time) {
+        return Err(Refusal::Timestamp(k));
     }
-    if mark == 1 {
-        if !float::is_finite(time) {
-            return Checked::Refused(Refusal::Timestamp(k));
-        }
-    }
-    Checked::Accepted
+    Ok(())
 }
 
 // Whether two times are there and the first is above the second.
+#[tactic(auto, unfolding(crate::specs::Traces::above, trace::specs::Trace::time_of))]
 pub fn above(mark: u8, time: f64, mark2: u8, time2: f64) -> bool
     ensures { result ≡ above (time_of mark time) (time_of mark2 time2) }
 {
-    if mark == 1 {
-        if mark2 == 1 {
-            return time2 < time;
-        }
-    }
-    false
+    mark == 1 && mark2 == 1 && time2 < time
 }

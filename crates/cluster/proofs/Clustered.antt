@@ -2,8 +2,8 @@
 use mathlib.Core.Path.{◌≡◌, sym, ap, ap₂, ◌∙◌, subst}
 use mathlib.Core.Bool.{Bool}
 use mathlib.Core.List.{List, map}
-use Prim.Native.Nat.{ℕ, ◌-◌, ◌*◌, ◌<◌, ◌≤◌}
-use native.Mathlib.Nat.{mul-le-mul, sub-zero, le_trans}
+use Prim.Native.Nat.{ℕ, ◌*◌, ◌<◌, ◌≤◌}
+use native.Mathlib.Nat.{mul-le-mul, le_trans}
 use native.Mathlib.Omega.{arith}
 use lib.IntN.{ℤ}
 use lib.ListN.{length, get_or, take}
@@ -38,11 +38,11 @@ cells_few k n h l = let a : k * k ≤ 512 * 512 = mul-le-mul (le_trans h l) (le_
 pub cells_in : (k n : ℕ) → k ≤ n → k * k ≤ n * n
 cells_in k n h = mul-le-mul h h
 
-pub rows_front : (k n : ℕ) (s : List Float) {m : ℕ} → k ≤ n → n ≤ 512 → length s ≡ n * n → m ≡ k → Rows (take (k * k - 0) s) k m
+pub rows_front : (k n : ℕ) (s : List Float) {m : ℕ} → k ≤ n → n ≤ 512 → length s ≡ n * n → m ≡ k → Rows (take (k * k) s) k m
 rows_front k n s h l e q = record {
   narrow = le_trans h l;
   wide = omega arith;
-  rows = rw (q, sub-zero (k * k)) (let a = length-take-le (k * k) s (let b = cells_in k n h in omega arith) in omega arith);
+  rows = rw q (let a = length-take-le (k * k) s (let b = cells_in k n h in omega arith) in omega arith);
 }
 
 -- ---- the labels that the grouping gives
@@ -64,11 +64,11 @@ labels_few r net seed e = subst (λ (l : List ℕ). label_count l ≤ length l) 
 module _ (dist : Metric) (r2 : Float) (ps : List Place) where
   -- The compacted table is that of the nodes' network.
   pub network_front : (n : ℕ) (ns : List ℕ) (t s : List Float) {m : ℕ} → ns ≡ nodes dist r2 ps → RowNumbers n ns → Tabled (weight dist r2 ps) n t (n * n) → Compacted n ns t s (length ns * length ns)
-      → length s ≡ n * n → m ≡ length ns → network (take (length ns * length ns - 0) s) (length ns) m ≡ node_network dist r2 ps
+      → length s ≡ n * n → m ≡ length ns → network (take (length ns * length ns) s) (length ns) m ≡ node_network dist r2 ps
   unfolding node_network
   network_front n ns t s {m} e r w c l q =
       ap₂ {C = Network} (λ (a : List Float) (b : ℕ). network a (length ns) b)
-      (ap (λ (z : ℕ). take z s) (sub-zero (length ns * length ns)) ∙ node_table (weight dist r2 ps) n ns t s r w c (let a = cells_in (length ns) n r.few in omega arith))
+      (node_table (weight dist r2 ps) n ns t s r w c (let a = cells_in (length ns) n r.few in omega arith))
       q ∙ ap (λ (x : List ℕ). network (table_of (weight dist r2 ps) x) (length x) (length x)) e
 
   pub cluster_is : (single : Bool) (seed : ℕ) {ns gs : List ℕ} {labels : List ℤ} {m : ℕ} (r : Kept) → ns ≡ nodes dist r2 ps → m ≡ length ps → grouping_of gs r ≡ run_infomap (node_network dist r2 ps) seed

@@ -25,9 +25,27 @@ use Rattle.lists.specs.Lists.{minus_one}
 use Rattle.stay.proofs.AllMedians.{all_lies_length}
 use Rattle.stay.proofs.AllEvents.{number_below, all_events_number, all_events_lie}
 use Rattle.distance.specs.Distance.{Metric, euclidean, points}
-use Rattle.neighbors.specs.Places.{Place, places_in}
+use Rattle.std.specs.Prelude.{Some, None}
+use Rattle.std.specs.Prelude as std
+use Rattle.std.specs.Option.{unwrap_or}
+use Rattle.neighbors.specs.Places.{Place, place_of, places_in}
+use Rattle.neighbors.specs.StepsPlaces.{place_found, PlaceFound}
+use Rattle.neighbors.proofs.Sighted.{length_places_in}
+use Rattle.neighbors.proofs.Search.{found_some, found_no, place_le}
 use Rattle.cluster.specs.FixLabels.{fix_labels, label_for, stay_labels}
 use Rattle.cluster.specs.Steps.{event_label, event_labels}
+
+-- ---- the label of a median's place
+
+place_is : (ps : List Place) (m : Point) (o : std.Option ℕ) {n : ℕ} → o ≡ place_found ps m → n ≡ length ps → unwrap_or o n ≡ place_of ps m
+place_is ps m (Some i) e q = (found_some ps m i e).0
+place_is ps m None e q = let a = found_no ps m e in let b = place_le ps m in omega arith
+
+pub label_at_place : (xs ys : List Float) (pl : List ℤ) (m : Point) {o : std.Option ℕ} {l : ℤ} → PlaceFound xs ys m o → length ys ≡ length xs → l ≡ get_or pl (unwrap_or o (length xs)) (negsuc 0)
+    → (cs : List ℕ) → length cs ≡ length xs → l ≡ label_for (places_in xs ys cs) pl (some m)
+unfolding label_for
+label_at_place xs ys pl m {o} f p e cs q =
+    e ∙ ap (λ (i : ℕ). get_or pl i (negsuc 0)) (place_is (places_in xs ys cs) m o (f cs q) (sym (length_places_in xs ys cs p q)))
 
 -- ---- the label of a stay number
 

@@ -1,8 +1,7 @@
 -- The nodes that the search in the table of weights finds.
 use mathlib.Core.Path.{◌≡◌, sym, ap, ◌∙◌, subst}
 use mathlib.Core.List.{List}
-use Prim.Native.Nat.{ℕ, ◌-◌, ◌*◌, ◌≤◌}
-use native.Mathlib.Nat.{sub-zero}
+use Prim.Native.Nat.{ℕ, ◌*◌, ◌≤◌}
 use native.Mathlib.Omega.{arith}
 use lib.ListN.{length, take}
 use lib.Seq.{length-take-le}
@@ -31,14 +30,14 @@ module _ (xs ys : List Float) (cs : List ℕ) (t : List Float) (p : PlaceTable x
     rows_are = subst (λ (n : ℕ). rows_with_weight n s ≡ nodes dist r2 ps) places_long
         (rows_nodes dist r2 ps s (subst (λ (n : ℕ). Tabled (weight dist r2 ps) n s (n * n)) (sym places_long) w) p.counted (let a = p.stays in omega arith))
 
-    pub found_nodes : take (k - 0) l ≡ nodes dist r2 ps
-    found_nodes = ap (λ (z : ℕ). take z l) (sub-zero k) ∙ take_front (rows_with_weight (length xs) s) l₀ l k f.0 f.1 ∙ rows_are
+    pub found_nodes : take k l ≡ nodes dist r2 ps
+    found_nodes = take_front (rows_with_weight (length xs) s) l₀ l k f.0 f.1 ∙ rows_are
 
     pub found_few : k ≤ length xs
     found_few = let a = nodes_few dist r2 ps in let b = ap length rows_are in let d = places_long in omega (arith, f.0)
 
-    pub found_rise : RowNumbers (length xs) (take (k - 0) l)
+    pub found_rise : RowNumbers (length xs) (take k l)
     found_rise = rw found_nodes (subst (λ (n : ℕ). RowNumbers n (nodes dist r2 ps)) places_long (nodes_rise dist r2 ps))
 
-    pub found_long : (g : List ℕ) → length g ≡ length xs → length l ≡ length xs → length (take (k - 0) g) ≡ length (take (k - 0) l)
-    found_long g a b = let d = found_few in rw (sub-zero k) (length-take-le k g (omega arith) ∙ sym (length-take-le k l (omega arith)))
+    pub found_long : (g : List ℕ) → length g ≡ length xs → length l ≡ length xs → length (take k g) ≡ length (take k l)
+    found_long g a b = let d = found_few in length-take-le k g (omega arith) ∙ sym (length-take-le k l (omega arith))

@@ -6,14 +6,18 @@ use native.Mathlib.Nat.{le-max_left, le-max_right, max-le, max-zero, zero-max}
 use native.Mathlib.Numerals.{add-one}
 use native.Mathlib.Decide.{dec_lt}
 use native.Mathlib.Omega.{arith}
-use lib.ListN.{length, get_or, drop, drop_of_length-le, get_or-eq_default}
-use lib.Seq.{drop-cons}
+use lib.ListN.{length, get_or, get_or-eq_default}
+use Rattle.std.specs.List.{fold}
 use Rattle.lists.proofs.Tests.{max_assoc}
 use Rattle.cluster.specs.Cluster.{label_count}
 
-pub count_on : (gs : List ℕ) (m u : ℕ) {t m' : ℕ} → t ≡ max m (label_count (drop u gs)) → u < length gs → m' ≡ max m (suc (get_or gs u 0)) → t ≡ max m' (label_count (drop (u + 1) gs))
+fold_from : (gs : List ℕ) (m : ℕ) → fold (λ a l. max a (l + 1)) m gs ≡ max m (label_count gs)
 unfolding label_count
-count_on gs m u e h q = e ∙ rw (drop-cons gs u 0, q, add-one u) (sym (max_assoc m (suc (get_or gs u 0)) (label_count (drop (suc u) gs))))
+fold_from [] m = sym (max-zero m)
+fold_from (l ∷ ls) m = fold_from ls (max m (l + 1)) ∙ rw (add-one l) (max_assoc m (suc l) (label_count ls))
+
+pub label_count_fold : (gs : List ℕ) → label_count gs ≡ fold (λ a l. max a (l + 1)) 0 gs
+label_count_fold gs = sym (fold_from gs 0 ∙ zero-max (label_count gs))
 
 -- A label is below their number.
 pub label_lt : (ls : List ℕ) (u : ℕ) → u < length ls → get_or ls u 0 < label_count ls
@@ -29,14 +33,6 @@ label_le ls u = go (dec_lt u (length ls))
     go : Dec (u < length ls) → get_or ls u 0 ≤ label_count ls
     go (yes h) = let a = label_lt ls u h in omega arith
     go (no h) = let a = get_or-eq_default ls 0 {n = u} (omega arith) in omega arith
-
--- There is no label to start with, and none is left at the end.
-pub count_start : (gs : List ℕ) → label_count gs ≡ max 0 (label_count (drop 0 gs))
-count_start gs = sym (zero-max (label_count gs))
-
-pub count_end : (gs : List ℕ) (m u : ℕ) {t : ℕ} → t ≡ max m (label_count (drop u gs)) → length gs ≤ u → m ≡ t
-unfolding label_count
-count_end gs m u e h = sym (e ∙ rw (drop_of_length-le gs {i = u} h) (max-zero m))
 
 -- Where all labels are below m, their number is at most m.
 pub count_le : (ls : List ℕ) (m : ℕ) → ((u : ℕ) → u < length ls → get_or ls u 0 < m) → label_count ls ≤ m

@@ -14,10 +14,6 @@ use Rattle.lists.specs.Lists.{from, upto, position, select}
 use Rattle.cluster.specs.Cluster.{label_count, place_label, labels_from}
 use Rattle.cluster.proofs.Before.{before, before_on, before_not, node_test, position_is, member_is}
 
-pub next_le : (node : Bool) (u : ℕ) {u' : ℕ} → u' ≡ cond node (u + 1) u → u' ≤ u + 1
-next_le true u e = omega arith
-next_le false u e = omega arith
-
 -- ---- the walk
 
 module _ (single : Bool) (nodes groups : List ℕ) where

@@ -12,21 +12,21 @@ use settings::config::Config;
 fn label_at(labels: &[i32], i: usize) -> i32
     ensures { result ≡ get_or labels.now i (negsuc 0) }
 {
-    if i < labels.len() {
-        return labels[i];
-    }
-    -1
+    labels.get(i).copied().unwrap_or(-1)
 }
 
 // The label of the place of m, or -1 where it has none.
+#[tactic(auto, using(crate::proofs::FixLabels::label_at_place))]
 fn median_label(px: &[f64], py: &[f64], place_labels: &[i32], m: Point) -> i32
     requires { length py.now ≡ length px.now }
     ensures { (cs : List ℕ) → length cs ≡ length px.now → result ≡ label_for (places_in px.now py.now cs) place_labels.now (some m) }
 {
-    label_at(place_labels, neighbors::places::place_of(px, py, m))
+    let place = neighbors::places::place_of(px, py, m);
+    label_at(place_labels, place.unwrap_or(px.len()))
 }
 
 // The label of each stay, from its median and the labels of the places.
+#[tactic(auto, using(crate::proofs::FixLabels::stays_start, crate::proofs::FixLabels::stay_labelled, crate::proofs::FixLabels::stays_labelled))]
 pub fn stay_labels(
     mx: &[f64],
     my: &[f64],
@@ -38,32 +38,31 @@ pub fn stay_labels(
     requires { (length my.now ≡ length mx.now) × (length py.now ≡ length px.now) × (length out.old ≡ length mx.now) }
     ensures { StayLabelsAre mx.now my.now px.now py.now place_labels.now out.new }
 {
-    let mut i = 0;
-    while i < mx.len() {
+    for i in 0..mx.len() {
         let m = Point { x: mx[i], y: my[i] };
         out[i] = median_label(px, py, place_labels, m);
-        i += 1;
     }
 }
 
 // The label of the stay of number e, or -1 where there is none.
+#[tactic(auto, using(crate::proofs::FixLabels::no_label, crate::proofs::FixLabels::label_of))]
 fn event_label(stay_labels: &[i32], e: i32) -> i32
     ensures { result ≡ event_label stay_labels.now e }
 {
     if e < 0 {
-        return -1;
+        -1
+    } else {
+        label_at(stay_labels, e as usize)
     }
-    label_at(stay_labels, e as usize)
 }
 
 // The label of each fix, from its stay number and the labels of the stays.
+#[tactic(auto, using(crate::proofs::FixLabels::fix_labelled, crate::proofs::FixLabels::fixes_labelled))]
 pub fn fix_labels(events: &[i32], stay_labels: &[i32], labels: &mut [i32])
     requires { length labels.old ≡ length events.now }
     ensures { labels.new ≡ event_labels stay_labels.now events.now }
 {
-    let mut i = 0;
-    while i < events.len() {
-        labels[i] = event_label(stay_labels, events[i]);
-        i += 1;
+    for (i, &e) in events.iter().enumerate() {
+        labels[i] = event_label(stay_labels, e);
     }
 }

@@ -1,4 +1,5 @@
 // Labels of places from the kept grouping of the nodes.
+// Kept as it is: arrays of fixed size, of which a part is lent, since the project's memory is fixed and it takes no heap.
 #![tactic(auto)]
 
 ghost use Rattle.std.specs.Prelude.{◌≡◌, ◌*◌, ◌≤◌, length};
@@ -29,8 +30,7 @@ fn group_and_label(
 {
     neighbors::nodes::compact(table, n, linked);
     let k = linked.len();
-    let cells = k * k;
-    let kept = infomap::run_infomap(&table[0..cells], k, groups, seed);
+    let kept = infomap::run_infomap(&table[..k * k], k, groups, seed);
     labels::label_places(linked, groups, single, labels);
     kept
 }
@@ -57,8 +57,8 @@ fn cluster_in(
     group_and_label(
         table,
         n,
-        &linked[0..k],
-        &mut groups[0..k],
+        &linked[..k],
+        &mut groups[..k],
         single,
         seed,
         labels,
@@ -90,8 +90,8 @@ pub fn cluster(
         single,
         seed,
         table,
-        &mut linked[0..n],
-        &mut groups[0..n],
+        &mut linked[..n],
+        &mut groups[..n],
         labels,
     )
 }

@@ -1,22 +1,25 @@
 -- How the loops of the sums from_partition go on and end.
-use mathlib.Core.Path.{◌≡◌, sym, ap, ◌∙◌}
+use mathlib.Core.Path.{◌≡◌, refl, sym, ap, ◌∙◌}
 use mathlib.Core.Bool.{cond}
 use mathlib.Core.List.{List}
 use Prim.Native.Nat.{ℕ, suc, ◌+◌, ◌-◌, ◌<◌, ◌≤◌}
 use native.Mathlib.Numerals.{add-one}
 use native.Mathlib.Nat.{sub-zero}
 use native.Mathlib.Omega.{arith}
+use borrow.Author.Tests.{eq-eqb, ne_eqb}
 use lib.Dec.{eqb}
-use lib.ListN.{length, drop, get_or, set, replicate, length-replicate, get_or-replicate, drop_of_length-le}
-use lib.Seq.{drop-cons, ext_get_or}
+use lib.ListN.{length, drop, get_or, set, take, replicate, drop_of_length-le}
+use lib.Seq.{drop-cons, take-set-lt}
+use Rattle.std.proofs.lemmas.List.{get_or-take}
 use lib.Ieee.{Float, nan}
 use Rattle.float.specs.Binary64.{add64, div64, zero64}
 use Rattle.float.specs.Ln.{plogp}
 use Rattle.map_state.specs.Network.{Network, row}
-use Rattle.map_state.specs.MapState.{lowest, leads, sum_q}
-use Rattle.map_state.specs.Steps.{Firsts, state_of}
+use Rattle.map_state.specs.MapState.{MapState, lowest, leads, sum_q}
+use Rattle.map_state.specs.Steps.{Firsts}
+use Rattle.codelength.specs.Steps.{sums_in, with_sums}
 use Rattle.codelength.specs.Codelength.{add_exit, exit_from, Sums, add_node, add_nodes_from, module_sums, sums_of, add_module, terms_from, terms, node_plogp_from, codelength_of, codelength, from_partition}
-use Rattle.map_state.proofs.Leaders.{firsts_of_lem}
+use Rattle.map_state.proofs.Leaders.{firsts_of_lem, lowest_of}
 use Rattle.codelength.specs.declared.Terms.{Terms}
 
 pub out_on : (g : ℕ) (a a' : Float) (part : List ℕ) (ws : List Float) (v : ℕ) → v < length part → length ws ≡ length part → a' ≡ add_exit g a (get_or part v 0) (get_or ws v nan)
@@ -28,14 +31,9 @@ pub out_end : (g : ℕ) (a : Float) (part : List ℕ) (ws : List Float) (v : ℕ
 unfolding exit_from
 out_end g a part ws v p = rw (drop_of_length-le part {i = v} p)
 
-pub cleared : (xs : List Float) (n : ℕ) → length xs ≡ n → ((k : ℕ) → k < n → get_or xs k nan ≡ zero64) → xs ≡ replicate n zero64
-cleared xs n e f = ext_get_or nan xs (replicate n zero64) (e ∙ sym (length-replicate n zero64)) (λ k h. let i : k < n = omega arith in f k i ∙ sym (get_or-replicate n k zero64 nan i))
-
--- one node, from the code's steps
-pub nodes_added_is : (n : Network) (part : List ℕ) (exit strengths : List Float) (v : ℕ) {f : ℕ} {x : Float} {ws : List Float} → f ≡ lowest (get_or part v 0) part → ws ≡ row n v → x ≡ exit_from (get_or part v 0) (get_or exit f nan) part ws
-    → sums_of (set exit f x) (set strengths f (add64 (get_or strengths f nan) (get_or n.strength v nan))) ≡ add_node n part (sums_of exit strengths) v
-unfolding add_node
-nodes_added_is n part exit strengths v e w p = rw (p, w, e)
+-- the lowest member of the group of node v, where `first` has it, is a node
+pub slot : (part first : List ℕ) (v : ℕ) → Firsts part first → v < length part → get_or first v 0 < length part
+slot part first v f h = omega (arith, firsts_of_lem part first f v h, lowest_of part v h, h)
 
 pub nodes_added_on : (n : Network) (part : List ℕ) (s : Sums) (v : ℕ) {s' : Sums} → v < length part → s' ≡ add_node n part s v → add_nodes_from n part s' (v + 1) (length part - (v + 1)) ≡ add_nodes_from n part s v (length part - v)
 unfolding add_nodes_from
@@ -53,18 +51,27 @@ pub nodes_added_start : (n : Network) (part : List ℕ) {e s : List Float} → e
 unfolding module_sums
 nodes_added_start n part p q = rw (p, q, sub-zero)
 
-pub terms_on : (d : Float) (part first : List ℕ) (exit strengths : List Float) (t t' : Terms) (v : ℕ) → Firsts part first → v < length part → t' ≡ cond (eqb (get_or first v 0) v) (add_module d t (get_or exit v nan) (get_or strengths v nan)) t
+terms_on : (d : Float) (part first : List ℕ) (exit strengths : List Float) (t t' : Terms) (v : ℕ) → Firsts part first → v < length part → t' ≡ cond (eqb (get_or first v 0) v) (add_module d t (get_or exit v nan) (get_or strengths v nan)) t
     → terms_from d part exit strengths t' (v + 1) (length part - (v + 1)) ≡ terms_from d part exit strengths t v (length part - v)
 unfolding terms_from leads
 terms_on d part first exit strengths t t' v k h e =
     let o : length part - v ≡ suc (length part - (v + 1)) = omega arith in
     rw (o, e, firsts_of_lem part first k v h, add-one v)
 
-pub terms_end : (d : Float) (part : List ℕ) (exit strengths : List Float) (t : Terms) (v : ℕ) → length part ≤ v → t ≡ terms_from d part exit strengths t v (length part - v)
+-- The groups whose lowest member is v or higher, added to the terms so far, are z: past a node that leads its group, past another, and at the end.
+pub terms_yes : (d : Float) (part first : List ℕ) (exit strengths : List Float) (t : Terms) (v : ℕ) {z t' : Terms} → terms_from d part exit strengths t v (length part - v) ≡ z → Firsts part first → v < length part → get_or first v 0 ≡ v
+    → t' ≡ add_module d t (get_or exit v nan) (get_or strengths v nan) → terms_from d part exit strengths t' (v + 1) (length part - (v + 1)) ≡ z
+terms_yes d part first exit strengths t v {t' = t'} e k h i p = terms_on d part first exit strengths t t' v k h (rw (eq-eqb _ _ i) p) ∙ e
+
+pub terms_no : (d : Float) (part first : List ℕ) (exit strengths : List Float) (t : Terms) (v : ℕ) {z : Terms} → terms_from d part exit strengths t v (length part - v) ≡ z → Firsts part first → v < length part → (get_or first v 0 ≡ v → ⊥)
+    → terms_from d part exit strengths t (v + 1) (length part - (v + 1)) ≡ z
+terms_no d part first exit strengths t v e k h i = terms_on d part first exit strengths t t v k h (rw (ne_eqb _ _ i)) ∙ e
+
+pub terms_end : (d : Float) (part : List ℕ) (exit strengths : List Float) (t : Terms) (v : ℕ) {z : Terms} → terms_from d part exit strengths t v (length part - v) ≡ z → length part ≤ v → t ≡ z
 unfolding terms_from
-terms_end d part exit strengths t v h =
+terms_end d part exit strengths t v e h =
     let o : length part - v ≡ 0 = omega arith in
-    rw o
+    rw o at e
 
 pub nodes_on : (d a a' : Float) (ss : List Float) (v : ℕ) → v < length ss → a' ≡ add64 a (plogp (div64 (get_or ss v nan) d)) → node_plogp_from d a' (drop (v + 1) ss) ≡ node_plogp_from d a (drop v ss)
 unfolding node_plogp_from
@@ -74,11 +81,27 @@ pub nodes_end : (d a : Float) (ss : List Float) (v : ℕ) → length ss ≤ v �
 unfolding node_plogp_from
 nodes_end d a ss v h = rw (drop_of_length-le ss {i = v} h)
 
-pub codelength_is : (n : Network) (part : List ℕ) {e s : List Float} {t : Terms} {a l : Float} → sums_of e s ≡ module_sums n part → t ≡ terms n.d part e s → a ≡ node_plogp_from n.d zero64 n.strength → l ≡ codelength_of t a → l ≡ codelength n part
-unfolding codelength
-codelength_is n part {e} {s} p q r z =
-    z ∙ rw (q, r) (ap (λ (x : Sums). codelength_of (terms n.d part x.exits x.strengths) (node_plogp_from n.d zero64 n.strength)) p)
+-- ---- the code's arrays, of which the first n places are the state
 
-pub from_partition_is : (n : Network) (part : List ℕ) {e s : List Float} {q : Float} → sums_of e s ≡ module_sums n part → q ≡ sum_q n.d part e → state_of part e s q ≡ from_partition n part
+-- one node, from the code's steps
+pub node_view : (net : Network) (s : MapState) (n : ℕ) (part : List ℕ) (q : Float) (e t : List Float) (v f : ℕ) (x : Float) → part ≡ s.partition → take n e ≡ s.exits → take n t ≡ s.strengths → q ≡ s.q_sum
+    → f < n → f ≡ lowest (get_or s.partition v 0) s.partition → x ≡ exit_from (get_or s.partition v 0) (get_or s.exits f nan) s.partition (row net v)
+    → ◌≡◌ {A = MapState} (record { partition = part; exits = take n (set e f x); strengths = take n (set t f (add64 (get_or t f nan) (get_or net.strength v nan))); q_sum = q })
+    (with_sums s (add_node net s.partition (sums_in s) v))
+unfolding add_node
+node_view net s n part q e t v f x pp pe pt pq h i p =
+    let o : get_or t f nan ≡ get_or s.strengths f nan = sym (get_or-take n t f nan h) ∙ ap (λ (l : List Float). get_or l f nan) pt in
+    rw (take-set-lt n e f x h, take-set-lt n t f (add64 (get_or t f nan) (get_or net.strength v nan)) h, pp, pe, pt, pq, o, p, i)
+
+-- the state from its sums
+pub sums_made : (s t : MapState) (z : Sums) → t.partition ≡ s.partition → t.q_sum ≡ s.q_sum → sums_in t ≡ z → t ≡ with_sums s z
+sums_made s t z p q e = rw (← e, ← p, ← q) refl
+
+pub codelength_is : (n : Network) (s t : MapState) {x : Terms} {a l : Float} → t ≡ with_sums s (module_sums n s.partition) → x ≡ terms n.d t.partition t.exits t.strengths → a ≡ node_plogp_from n.d zero64 n.strength → l ≡ codelength_of x a → l ≡ codelength n s.partition
+unfolding codelength
+codelength_is n s t p q r z = z ∙ rw (q, r, p)
+
+pub from_partition_is : (n : Network) (s t : MapState) {q : Float} → t ≡ with_sums s (module_sums n s.partition) → q ≡ sum_q n.d t.partition t.exits
+    → ◌≡◌ {A = MapState} (record { partition = t.partition; exits = t.exits; strengths = t.strengths; q_sum = q }) (from_partition n s.partition)
 unfolding from_partition
-from_partition_is n part p r = rw r (ap (λ (x : Sums). state_of part x.exits x.strengths (sum_q n.d part x.exits)) p)
+from_partition_is n s t p r = rw (r, p)

@@ -2,33 +2,56 @@
 use mathlib.Core.Path.{◌≡◌, refl, sym, ap, ◌∙◌}
 use Prim.Native.Nat.{ℕ, ◌+◌, ◌*◌, ◌<◌}
 use native.Mathlib.Omega.{arith}
-use mathlib.Core.Bool.{Bool, true, false, ◌&&◌, ◌||◌, false≢true}
+use mathlib.Core.Bool.{Bool, true, false, not, ◌&&◌, ◌||◌, false≢true}
 use borrow.Author.Tests.{ltb-true, ltb-false, lt-ltb, le-leb, lt-leb}
 use lib.Dec.{leb, eqb}
-use lib.Ieee.{Float, nan, inf, fin, up, down, lt, le, eq, neg, of_int}
+use lib.IntN.{ℤ}
+use lib.Ieee.{Float, nan, inf, fin, up, down, lt, le, eq, neg, of_int, is_nan}
 use lib.Ieee.Fits.{down_pos}
 use Rattle.float.specs.Binary64.{whole64}
+use Rattle.float.proofs.Order.{le_is}
 use Rattle.distance.specs.Limit.{limit, within}
 use Rattle.distance.proofs.Size.{at_most}
 
-pub below_limit : (x : Float) → lt x (neg (whole64 limit)) ≡ true → within limit x ≡ false
+under : (s : Bool) (m : ℕ) (e : ℤ) → lt (fin s m e) (neg (whole64 limit)) ≡ true → within limit (fin s m e) ≡ false
 unfolding lt within neg of_int
-below_limit nan h = refl
-below_limit (inf s) h = refl
-below_limit (fin false m e) h = absurd (false≢true h)
-below_limit (fin true m e) h =
+under false m e h = absurd (false≢true h)
+under true m e h =
     let a = ltb-true (limit * down e) (m * up e * 1) h in
     lt-leb (m * up e) (limit * down e) (omega arith)
 
-pub up_to_limit : (x : Float) → lt x (neg (whole64 limit)) ≡ false → le x (whole64 limit) ≡ within limit x
+over : (s : Bool) (m : ℕ) (e : ℤ) → lt (fin s m e) (neg (whole64 limit)) ≡ false → le (fin s m e) (whole64 limit) ≡ within limit (fin s m e)
 unfolding le lt eq within neg of_int
-up_to_limit nan h = refl
-up_to_limit (inf true) h = absurd (false≢true (sym h))
-up_to_limit (inf false) h = refl
-up_to_limit (fin false m e) h = at_most (m * up e * 1) (limit * down e) ∙ ap (λ (z : ℕ). leb z (limit * down e)) (let z : m * up e * 1 ≡ m * up e = omega arith in z)
-up_to_limit (fin true m e) h =
+over false m e h = at_most (m * up e * 1) (limit * down e) ∙ ap (λ (z : ℕ). leb z (limit * down e)) (let z : m * up e * 1 ≡ m * up e = omega arith in z)
+over true m e h =
     let a = ltb-false (limit * down e) (m * up e * 1) h in
     let p = down_pos e in
     let b : 0 < m * up e * 1 + limit * down e = omega arith in
     ap (λ (z : Bool). z || (eqb (m * up e * 1) (limit * down e) && eqb (m * up e * 1) 0)) (lt-ltb 0 (m * up e * 1 + limit * down e) b)
     ∙ sym (le-leb (m * up e) (limit * down e) (omega arith))
+
+-- The first comparison, turned round.
+turned : (s : Bool) (m : ℕ) (e : ℤ) → le (neg (whole64 limit)) (fin s m e) ≡ not (lt (fin s m e) (neg (whole64 limit)))
+unfolding neg of_int is_nan
+turned s m e = le_is (neg (whole64 limit)) (fin s m e) tt tt
+
+not_true : (b : Bool) → not b ≡ true → b ≡ false
+not_true true h = absurd (false≢true h)
+not_true false h = refl
+
+not_false : (b : Bool) → not b ≡ false → b ≡ true
+not_false true h = refl
+not_false false h = absurd (false≢true (sym h))
+
+pub below_limit : (x : Float) → le (neg (whole64 limit)) x ≡ false → within limit x ≡ false
+unfolding within
+below_limit nan h = refl
+below_limit (inf s) h = refl
+below_limit (fin s m e) h = under s m e (not_false (lt (fin s m e) (neg (whole64 limit))) (sym (turned s m e) ∙ h))
+
+pub up_to_limit : (x : Float) → le (neg (whole64 limit)) x ≡ true → le x (whole64 limit) ≡ within limit x
+unfolding le lt eq within neg of_int
+up_to_limit nan h = refl
+up_to_limit (inf true) h = absurd (false≢true h)
+up_to_limit (inf false) h = refl
+up_to_limit (fin s m e) h = over s m e (not_true (lt (fin s m e) (neg (whole64 limit))) (sym (turned s m e) ∙ h))

@@ -16,6 +16,7 @@ fn on_grid(c: f64, res: f64) -> f64
 }
 
 // Both coordinates, each by itself.
+#[tactic(auto, unfolding(crate::specs::Grid::point_on_grid))]
 pub fn point_on_grid(p: Point, res: f64) -> Point
     ensures { result ≡ point_on_grid res p }
 {

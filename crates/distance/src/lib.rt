@@ -8,7 +8,7 @@ ghost use Rattle.distance.specs.Limit.{limit, within, in_limit};
 pub mod grid;
 
 // A fix, a median or a place.
-#[derive(Clone, Copy)]
+#[derive(Clone, Copy, Debug, PartialEq)]
 pub struct Point {
     pub x: f64,
     pub y: f64,
@@ -21,23 +21,19 @@ const LIMIT: f64 = 1000000000.0;
 fn within_limit(c: f64) -> bool
     ensures { result ≡ within limit c }
 {
-    if c < -LIMIT {
-        return false;
-    }
-    c <= LIMIT
+    -LIMIT <= c && c <= LIMIT
 }
 
 // Whether both coordinates are.
+#[tactic(auto, unfolding(crate::specs::Limit::in_limit))]
 pub fn in_limit(p: Point) -> bool
     ensures { result ≡ in_limit p }
 {
-    if within_limit(p.x) {
-        return within_limit(p.y);
-    }
-    false
+    within_limit(p.x) && within_limit(p.y)
 }
 
 // The distance of two points, and its bound for points within the limits.
+#[tactic(auto, using(crate::proofs::Bound::measured), unfolding(crate::specs::Distance::euclidean))]
 pub fn distance(a: Point, b: Point) -> f64
     ensures { Measured a b result }
 {

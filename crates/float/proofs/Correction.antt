@@ -9,12 +9,6 @@ use borrow.Author.Tests.{ltb-true, ltb-false}
 use Rattle.float.specs.Steps.{Rooted}
 
 -- two halves of 27 digits
-pub product : {a b : ℕ} → a < 134217728 → b < 134217728 → a * b ≤ 134217727 * 134217727
-product {a} {b} h g = mul-le-mul (less a h) (less b g)
-  where
-    less : (x : ℕ) → x < 134217728 → x ≤ 134217727
-    less x l = omega arith
-
 pub parts : (a b c low : ℕ) → c ≡ a * b → low ≡ c % 67108864 * 268435456 + b * b
     → (a * a + c / 67108864 + low / 18014398509481984) * 18014398509481984 + low % 18014398509481984 ≡ (a * 134217728 + b) * (a * 134217728 + b)
 parts a b c low e f = omega arith

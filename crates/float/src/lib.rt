@@ -4,44 +4,62 @@
 ghost use Rattle.std.specs.Prelude.{◌≡◌, ◌+◌, ◌-◌, ◌*◌, ◌/◌, ◌^◌, ◌≤◌, ◌<◌, false};
 ghost use Rattle.std.specs.Float.{binary64};
 ghost use Rattle.std.specs.Float.Ieee.{of_bits};
-ghost use Rattle.float.specs.Binary64.{one64, whole64, div64, finite};
+ghost use Rattle.std.specs.List.{fold};
+ghost use Rattle.float.specs.Binary64.{add64, mul64, one64, whole64, div64, finite};
 ghost use Rattle.float.specs.Root.{root};
 ghost use Rattle.float.specs.Ln.{series, ln_of, ln, plogp};
 ghost use Rattle.float.specs.Steps.{Unpacked, Normal, Even, Rooted, Squared};
 
 pub mod rounding;
 
+// 2^52: where the exponent's field begins in a bit pattern, and the digit in front of a normal number's others.
+const EXPONENT_ONE: u64 = 0x10_0000_0000_0000;
+
+// The bits of infinity, the first above those of all finite numbers.
+const INFINITY: u64 = 0x7ff0_0000_0000_0000;
+
+// The sign bit, which alone is -0.0.
+const SIGN: u64 = 0x8000_0000_0000_0000;
+
+// 2^54, by which a number is multiplied before its root is taken.
+const SCALE: u64 = 0x40_0000_0000_0000;
+
+// The natural logarithm of 2.
+const LN_2: f64 = 0.6931471805599453;
+
 // The number m * 2^e.
-#[derive(Clone, Copy)]
+#[derive(Clone, Copy, Debug, PartialEq, Eq)]
 struct Scaled {
     m: u64,
     e: u64,
 }
 
 // The value whose bits are b, finite and above zero, is m * 2^e smallest values (2^-1074 each).
+#[tactic(auto, using(crate::proofs::Unpacking::of_subnormal, crate::proofs::Unpacking::of_normal))]
 fn unpack(b: u64) -> Scaled
     requires b_nonzero { 0 < b }
     requires b_bound { b < 0x7ff0_0000_0000_0000 }
     ensures { Unpacked b result.m result.e }
 {
-    if b < 0x10_0000_0000_0000 {
+    if b < EXPONENT_ONE {
         Scaled { m: b, e: 0 }
     } else {
         Scaled {
-            m: b % 0x10_0000_0000_0000 + 0x10_0000_0000_0000,
-            e: b / 0x10_0000_0000_0000 - 1,
+            m: b % EXPONENT_ONE + EXPONENT_ONE,
+            e: b / EXPONENT_ONE - 1,
         }
     }
 }
 
 // m * 2^e times 2^1074, with an m of 53 binary digits.
+#[tactic(auto, using(crate::proofs::Unpacking::zeros_range))]
 fn normalize(m: u64, e: u64) -> Scaled
     requires m_nonzero { 0 < m }
     requires m_bound { m < 2 ^ 53 }
     requires e_bound { e < 2046 }
     ensures { Normal m e result.m result.e }
 {
-    let z = u64::leading_zeros(m) as u64 - 11;
+    let z = m.leading_zeros() as u64 - 11;
     Scaled {
         m: m << z,
         e: e + 1074 - z,
@@ -49,6 +67,7 @@ fn normalize(m: u64, e: u64) -> Scaled
 }
 
 // The same number with an even exponent.
+#[tactic(auto, using(crate::proofs::Unpacking::evened))]
 fn even_exponent(m: u64, e: u64) -> Scaled
     requires bound { 2 ^ 52 ≤ m }
     requires m_bound { m < 2 ^ 53 }
@@ -59,33 +78,34 @@ fn even_exponent(m: u64, e: u64) -> Scaled
     if e % 2 == 1 {
         Scaled { m: 2 * m, e: e - 1 }
     } else {
-        Scaled { m: m, e: e }
+        Scaled { m, e }
     }
 }
 
 // The whole part of the root of m * 2^54, a binary digit a turn. p is the place of the last digit found, and
 // root * root + rest * p stays m * 2^54.
+#[tactic(auto, using(crate::proofs::Restoring::done))]
 fn root_by_digits(m: u64) -> u64
     requires { m < 2 ^ 54 }
     ensures { Rooted m result }
 {
     let mut root: u64 = 0;
     let mut rest: u64 = m;
-    let mut p: u64 = 0x40_0000_0000_0000;
+    let mut p = SCALE;
     while 1 < p {
-        p = p / 2;
-        rest = rest * 2;
+        p /= 2;
+        rest *= 2;
         let t = root * 2 + p;
         if t <= rest {
-            rest = rest - t;
-            root = root + p;
+            rest -= t;
+            root += p;
         }
     }
     root
 }
 
 // hi * 2^54 + lo.
-#[derive(Clone, Copy)]
+#[derive(Clone, Copy, Debug, PartialEq, Eq)]
 struct Wide {
     hi: u64,
     lo: u64,
@@ -101,8 +121,8 @@ fn square(r: u64) -> Wide
     let c = a * b;
     let low = c % 0x400_0000 * 0x1000_0000 + b * b;
     Wide {
-        hi: a * a + c / 0x400_0000 + low / 0x40_0000_0000_0000,
-        lo: low % 0x40_0000_0000_0000,
+        hi: a * a + c / 0x400_0000 + low / SCALE,
+        lo: low % SCALE,
     }
 }
 
@@ -120,14 +140,14 @@ fn estimate(m: u64) -> u64
     let y2 = y1 * (1.5 - h * y1 * y1);
     let s = x * y2;
     let t = s + (x - s * s) * (0.5 * y2);
-    if t != t {
+    if t.is_nan() {
         return 0;
     }
-    let b = f64::to_bits(t);
-    (b % 0x10_0000_0000_0000 + 0x10_0000_0000_0000) * 2 - 2
+    (t.to_bits() % EXPONENT_ONE + EXPONENT_ONE) * 2 - 2
 }
 
 // The whole part of the root of m * 2^54, one by one from a number at or below it; d is what is left of m * 2^54 above r * r.
+#[tactic(auto, using(crate::proofs::Correction::short, crate::proofs::Correction::ends))]
 fn count_up(m: u64, from: u64, left: u64) -> u64
     requires m_bound { m < 2 ^ 54 }
     requires left_value { from * from + left ≡ m * 2 ^ 54 }
@@ -136,13 +156,14 @@ fn count_up(m: u64, from: u64, left: u64) -> u64
     let mut r = from;
     let mut d = left;
     while 2 * r < d {
-        d = d - (2 * r + 1);
-        r = r + 1;
+        d -= 2 * r + 1;
+        r += 1;
     }
     r
 }
 
 // The same with q steps at once where the root is near: what is left then is as a rule less than a step.
+#[tactic(auto, using(crate::proofs::Correction::step_small, crate::proofs::Correction::step_left, crate::proofs::Correction::steps))]
 fn correct(m: u64, r: u64, d: u64) -> u64
     requires m_bound { m < 2 ^ 54 }
     requires d_value { r * r + d ≡ m * 2 ^ 54 }
@@ -173,7 +194,7 @@ fn whole_root(m: u64) -> u64
     if 512 <= k {
         return root_by_digits(m);
     }
-    let all = k * 0x40_0000_0000_0000;
+    let all = k * SCALE;
     if all < w.lo {
         return root_by_digits(m);
     }
@@ -181,6 +202,7 @@ fn whole_root(m: u64) -> u64
 }
 
 // The root of the value whose bits are b, finite and above zero.
+#[tactic(auto, using(crate::proofs::Special::bits_number, crate::proofs::Result::all))]
 fn sqrt_positive(b: u64) -> f64
     requires b_nonzero { 0 < b }
     requires b_bound { b < 0x7ff0_0000_0000_0000 }
@@ -190,48 +212,53 @@ fn sqrt_positive(b: u64) -> f64
     let l = normalize(u.m, u.e);
     let s = even_exponent(l.m, l.e);
     let r = whole_root(s.m);
-    f64::from_bits((s.e / 2 - 26) * 0x10_0000_0000_0000 + (r + 1) / 2)
+    f64::from_bits((s.e / 2 - 26) * EXPONENT_ONE + (r + 1) / 2)
 }
 
 // The square root of x, rounded to nearest, of two as near the even one.
 pub fn sqrt(x: f64) -> f64
     ensures { result ≡ root binary64 x }
 {
-    if x != x {
+    if x.is_nan() {
         return x;
     }
-    let b = f64::to_bits(x);
-    if b == 0 {
+    let b = x.to_bits();
+    if b == 0 || b == SIGN || b == INFINITY {
         return x;
     }
-    if b == 0x7ff0_0000_0000_0000 {
-        return x;
-    }
-    if b == 0x8000_0000_0000_0000 {
-        return x;
-    }
-    if 0x8000_0000_0000_0000 < b {
-        return 0.0 / 0.0;
+    if SIGN < b {
+        return f64::NAN;
     }
     sqrt_positive(b)
 }
+
+// From t = start on t * z + r for each r.
+fn horner(z: f64, start: f64, rs: &[f64]) -> f64
+    ensures { result ≡ fold (λ t r. add64 (mul64 t z) r) start rs.now }
+{
+    rs.iter().fold(start, |t, &r| t * z + r)
+}
+
+// 1 / j for the odd numbers j from 21 down to 1.
+const RECIPROCALS: [f64; 11] = [
+    1.0 / 21.0,
+    1.0 / 19.0,
+    1.0 / 17.0,
+    1.0 / 15.0,
+    1.0 / 13.0,
+    1.0 / 11.0,
+    1.0 / 9.0,
+    1.0 / 7.0,
+    1.0 / 5.0,
+    1.0 / 3.0,
+    1.0,
+];
 
 // The series of ln from t = 1/23 down to j = 1.
 fn odd_series(z: f64) -> f64
     ensures { result ≡ series 11 z (div64 one64 (whole64 23)) }
 {
-    let t = 1.0 / 23.0;
-    let t = t * z + 1.0 / 21.0;
-    let t = t * z + 1.0 / 19.0;
-    let t = t * z + 1.0 / 17.0;
-    let t = t * z + 1.0 / 15.0;
-    let t = t * z + 1.0 / 13.0;
-    let t = t * z + 1.0 / 11.0;
-    let t = t * z + 1.0 / 9.0;
-    let t = t * z + 1.0 / 7.0;
-    let t = t * z + 1.0 / 5.0;
-    let t = t * z + 1.0 / 3.0;
-    t * z + 1.0 / 1.0
+    horner(z, 1.0 / 23.0, &RECIPROCALS)
 }
 
 // ln of 2^k * m.
@@ -240,7 +267,7 @@ fn ln_of(k: f64, m: f64) -> f64
 {
     let s = (m - 1.0) / (m + 1.0);
     let t = odd_series(s * s);
-    k * f64::from_bits(0x3FE6_2E42_FEFA_39EF) + 2.0 * s * t
+    k * LN_2 + 2.0 * s * t
 }
 
 // ln of the value whose bits are b, finite and above zero: it is l.m / 2^52 times a power of two, with l.m of 53 binary digits.
@@ -263,23 +290,24 @@ fn ln_positive(b: u64) -> f64
 pub fn ln(p: f64) -> f64
     ensures { result ≡ ln p }
 {
-    if p != p {
+    if p.is_nan() {
         return p;
     }
-    let b = f64::to_bits(p);
-    if b == 0x7ff0_0000_0000_0000 {
+    let b = p.to_bits();
+    if b == INFINITY {
         return p;
     }
-    if b % 0x8000_0000_0000_0000 == 0 {
-        return -1.0 / 0.0;
+    if b % SIGN == 0 {
+        return f64::NEG_INFINITY;
     }
-    if 0x8000_0000_0000_0000 < b {
-        return 0.0 / 0.0;
+    if SIGN < b {
+        return f64::NAN;
     }
     ln_positive(b)
 }
 
 // p * ln(p), and 0 unless p > 0.
+#[tactic(auto, unfolding(crate::specs::Ln::plogp))]
 pub fn plogp(p: f64) -> f64
     ensures { result ≡ plogp p }
 {
@@ -287,9 +315,9 @@ pub fn plogp(p: f64) -> f64
 }
 
 // Whether x is neither NaN nor an infinity.
+#[tactic(auto, using(crate::proofs::Special::finite_is))]
 pub fn is_finite(x: f64) -> bool
     ensures { result ≡ finite x }
 {
-    let infinity = f64::from_bits(0x7ff0_0000_0000_0000);
-    if x < infinity { -infinity < x } else { false }
+    x.is_finite()
 }

@@ -5,6 +5,12 @@ ghost use Rattle.std.specs.Float.Ieee.{of_bits};
 ghost use Rattle.float.specs.Binary64.{whole64};
 ghost use Rattle.float.specs.Round.{nearest_whole, round_ties_away};
 
+// The bits of 0.5.
+const HALF: u64 = 0x3fe0_0000_0000_0000;
+
+// The bits of 2^52, from which on every number is whole.
+const WHOLE: u64 = 0x4330_0000_0000_0000;
+
 // The whole number nearest to m / 2^k, a half going up.
 fn nearest_quotient(m: u64, k: u64) -> u64
     requires m_bound { m < 2 ^ 53 }
@@ -22,7 +28,7 @@ fn nearest_whole(b: u64) -> u64
     requires { b < 0x4330_0000_0000_0000 }
     ensures { (result ≤ 2 ^ 53) × (whole64 result ≡ round_ties_away (of_bits binary64 b)) }
 {
-    if b < 0x3fe0_0000_0000_0000 {
+    if b < HALF {
         return 0;
     }
     let u = crate::unpack(b);
@@ -33,12 +39,12 @@ fn nearest_whole(b: u64) -> u64
 pub fn round(x: f64) -> f64
     ensures { result ≡ round_ties_away x }
 {
-    if x != x {
+    if x.is_nan() {
         return x;
     }
-    let b = f64::to_bits(x);
-    let size = b % 0x8000_0000_0000_0000;
-    if 0x4330_0000_0000_0000 <= size {
+    let b = x.to_bits();
+    let size = b % crate::SIGN;
+    if WHOLE <= size {
         return x;
     }
     let n = nearest_whole(size) as f64;

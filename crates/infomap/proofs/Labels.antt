@@ -5,13 +5,15 @@ use mathlib.Core.List.{List, map}
 use Prim.Native.Nat.{ℕ, zero, suc, ◌+◌, ◌<◌, ◌≤◌}
 use native.Mathlib.Numerals.{add-one}
 use native.Mathlib.Omega.{arith}
-use borrow.Author.Tests.{eqb-true, eqb-false}
+use borrow.Author.Tests.{eqb-true, eqb-false, eq-eqb, ne_eqb}
 use lib.Dec.{eqb}
 use lib.ListN.{length, get_or, length-map}
 use lib.Seq.{ext_get_or}
 use Rattle.map_state.specs.MapState.{lowest, leads}
 use Rattle.lists.proofs.Maps.{get_or_map}
 use Rattle.map_state.proofs.Leaders.{lowest_of}
+use Rattle.std.specs.Prelude.{Option, Some, None, position}
+use Rattle.map_state.proofs.Chains.{found, not_found}
 use Rattle.map_state.proofs.Groups.{lowest_at}
 use Rattle.infomap.specs.Infomap.{rank, relabel_dense}
 
@@ -43,6 +45,29 @@ label_on part labels v {f} {next} h p q below e = e ∙ go (eqb f v) refl where
       let i : lowest (get_or part v 0) part < v = omega arith in
       let s : get_or part f 0 ≡ get_or part v 0 = ap (λ (z : ℕ). get_or part z 0) p ∙ lowest_at (get_or part v 0) part (omega arith) in
       below f (omega arith) ∙ ap (λ (z : ℕ). rank part (lowest z part)) s
+
+-- a node whose group has a member below it gets that member's label
+module _ (part labels : List ℕ) (v : ℕ) {f next : ℕ} (h : v < length part) (p : f ≡ lowest (get_or part v 0) part) (q : next ≡ rank part v) where
+  pub label_seen : f < v → ((k : ℕ) → k < v → get_or labels k 0 ≡ label_at part k) → get_or labels f 0 ≡ label_at part v
+  label_seen d below = label_on part labels v {f = f} {next = next} h p q below (rw (ne_eqb f v (λ e. omega arith)))
+
+  pub rank_seen : f < v → next ≡ rank part (v + 1)
+  rank_seen d = rank_on part v {f = f} {next = next} p q (rw (ne_eqb f v (λ e. omega arith)))
+
+-- the first member of a group gets a new one
+module _ (part : List ℕ) (v : ℕ) {next : ℕ} (p : v ≡ lowest (get_or part v 0) part) (q : next ≡ rank part v) where
+  pub label_new : next ≡ label_at part v
+  label_new = q ∙ ap (rank part) p
+
+  pub rank_new : next + 1 ≡ rank part (v + 1)
+  rank_new = rank_on part v {f = v} {next = next} p q (rw (eq-eqb v v refl))
+
+-- which it is where the search for its group's lowest member finds none below it
+pub first_if_none : (part : List ℕ) (v : ℕ) {o : Option ℕ} → v < length part → o ≡ position (λ p. eqb p (get_or part v 0)) part → o ≡ None → v ≡ lowest (get_or part v 0) part
+first_if_none part v h e n = absurd (omega (arith, not_found (get_or part v 0) part e n, lowest_of part v h))
+
+pub first_if_above : (part : List ℕ) (v : ℕ) {o : Option ℕ} {f : ℕ} → v < length part → o ≡ position (λ p. eqb p (get_or part v 0)) part → o ≡ Some f → v ≤ f → v ≡ lowest (get_or part v 0) part
+first_if_above part v h e n k = omega (arith, found (get_or part v 0) part e n, lowest_of part v h)
 
 pub is_relabelled : (part labels : List ℕ) → length labels ≡ length part → ((k : ℕ) → k < length part → get_or labels k 0 ≡ label_at part k) → labels ≡ relabel_dense part
 unfolding relabel_dense

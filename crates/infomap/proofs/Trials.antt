@@ -1,48 +1,50 @@
 -- A trial kept or not, the trials one after the other, and the slices of the run.
-use mathlib.Core.Path.{◌≡◌, refl, sym, ◌∙◌}
-use mathlib.Core.Bool.{Bool, true, false}
+use mathlib.Core.Path.{◌≡◌, refl, sym, ap, ◌∙◌}
+use mathlib.Core.Bool.{true, false}
 use mathlib.Core.List.{List}
-use Prim.Native.Nat.{ℕ, zero, suc, ◌-◌, ◌<◌, ◌≤◌}
+use Prim.Native.Nat.{ℕ, zero, suc, ◌+◌, ◌-◌, ◌<◌, ◌≤◌}
 use native.Mathlib.Nat.{sub-zero}
 use native.Mathlib.Omega.{arith}
-use lib.ListN.{length, take, drop}
+use lib.ListN.{length, take, drop, get_or, replicate, length-replicate, get_or-replicate}
+use Rattle.std.proofs.lemmas.List.{take-replicate}
+use Rattle.map_state.specs.MapState.{lowest}
+use Rattle.map_state.specs.Steps.{Firsts}
 use lib.Seq.{length-take-le}
 use lib.Ieee.{Float, lt}
 use Rattle.lists.specs.Lists.{upto}
-use Rattle.float.specs.Binary64.{mul64, zero64, two64}
+use Rattle.float.specs.Binary64.{zero64}
 use Rattle.rng.specs.Rng.{seeded}
-use Rattle.map_state.specs.Network.{Network, strengths_of, total_weight, network}
-use Rattle.map_state.specs.Steps.{net_of, Rows, Sized}
-use Rattle.map_state.proofs.Rows.{row_inside}
+use Rattle.map_state.specs.Network.{Network}
 use Rattle.codelength.specs.Codelength.{codelength}
 use Rattle.optimize.specs.Rounds.{Run, optimize_partition}
 use Rattle.infomap.specs.Infomap.{Grouping, RunMark, rest, trial_mark, keep, trials, best_of_three, kept_grouping, relabel_dense, run_infomap}
 
-module _ (n : Network) (k : Grouping) (s : Run) {part : List ℕ} {l : Float} (same : s.state.partition ≡ part) (len : l ≡ codelength n part) where
-  pub keep_yes : {rounds : ℕ} {moved : Bool} {m : RunMark} {best : List ℕ} → s.rounds ≡ rounds → s.moved ≡ moved → lt l k.codelength ≡ true → best ≡ part → m ≡ trial_mark moved
-      → ◌≡◌ {A = Grouping} (record { partition = best; mark = m; rounds = rounds; codelength = l }) (keep n k s)
+module _ (n : Network) (k : Grouping) (s : Run) {l : Float} (len : l ≡ codelength n s.state.partition) where
+  pub keep_yes : {m : RunMark} {best : List ℕ} → lt l k.codelength ≡ true → best ≡ s.state.partition → m ≡ trial_mark s.moved
+      → ◌≡◌ {A = Grouping} (record { partition = best; mark = m; rounds = s.rounds; codelength = l }) (keep n k s)
   unfolding keep
-  keep_yes q r t b m =
-      let c : lt (codelength n s.state.partition) k.codelength ≡ true = rw (same, sym len) t in
-      rw (c, b, m, len, sym same, sym q, sym r)
+  keep_yes t b m =
+      let c : lt (codelength n s.state.partition) k.codelength ≡ true = rw (sym len) t in
+      rw (c, b, m, len)
 
   pub keep_no : lt l k.codelength ≡ false → k ≡ keep n k s
   unfolding keep
   keep_no t =
-      let c : lt (codelength n s.state.partition) k.codelength ≡ false = rw (same, sym len) t in
+      let c : lt (codelength n s.state.partition) k.codelength ≡ false = rw (sym len) t in
       rw c
 
-pub trials_on : (n : Network) (left x : ℕ) (k : Grouping) {x' : ℕ} {k' : Grouping} → 0 < left → x' ≡ (optimize_partition n x).rng → k' ≡ keep n k (optimize_partition n x) → trials n (left - 1) x' k' ≡ trials n left x k
+-- one of the three trials more, after i of them
+pub trials_on : (n : Network) (i x : ℕ) (k : Grouping) {x' : ℕ} {k' : Grouping} → i < 3 → x' ≡ (optimize_partition n x).rng → k' ≡ keep n k (optimize_partition n x) → trials n (3 - (i + 1)) x' k' ≡ trials n (3 - i) x k
 unfolding trials
-trials_on n zero x k h p q = absurd (omega arith)
-trials_on n (suc t) x k h p q =
-    let m : suc t - 1 ≡ t = omega arith in
+trials_on n i x k h p q =
+    let m : 3 - i ≡ suc (3 - (i + 1)) = omega arith in
     rw (p, q, m)
 
-pub trials_end : (n : Network) (left x : ℕ) (k : Grouping) → left ≤ 0 → k ≡ trials n left x k
+pub trials_end : (n : Network) (i x : ℕ) (k : Grouping) → 3 ≤ i → k ≡ trials n (3 - i) x k
 unfolding trials
-trials_end n zero x k h = refl
-trials_end n (suc t) x k h = absurd (omega arith)
+trials_end n i x k h =
+    let m : 3 - i ≡ 0 = omega arith in
+    rw m
 
 -- ---- with and without links
 pub kept_links : (n : Network) (seed : ℕ) {k : Grouping} → lt zero64 n.d ≡ true → k ≡ best_of_three n (seeded seed) → k ≡ kept_grouping n seed
@@ -58,22 +60,22 @@ pub run_is : (n : Network) (seed : ℕ) (k : Grouping) {labels : List ℕ} → k
 unfolding run_infomap
 run_is n seed k e p = rw (p, e)
 
-pub network_is : (t : List Float) (m n : ℕ) {k : ℕ} {s : List Float} {w : Float} → k ≡ n → s ≡ strengths_of t m k → w ≡ total_weight t m n → net_of t m s (mul64 two64 w) ≡ network t m n
-unfolding network
-network_is t m n p q e = rw (q, e, p)
-
 -- ---- the slices
 pub part_of : {A : Type 0} (l : List A) (n : ℕ) → n ≤ length l → length (take (n - 0) (drop 0 l)) ≡ n
 part_of l n h = rw sub-zero (length-take-le n l h)
 
-pub sized_parts : (t : List Float) (m n : ℕ) (s : List Float) (part first : List ℕ) (exits strengths : List Float) → Rows t m n
-    → length s ≡ n → length part ≡ n → length first ≡ n → length exits ≡ n → length strengths ≡ n → Sized t m s part first exits strengths
-sized_parts t m n s part first exits strengths r z a b c d = record {
-  few = omega (arith, r.wide, r.narrow);
-  wide = r.narrow;
-  nodes = z ∙ sym a;
-  firsts = b ∙ sym a;
-  exit = c ∙ sym a;
-  sums = d ∙ sym a;
-  rows = λ u h. rw a (row_inside t m n u r (rw a at h));
-}
+-- ---- the state before the first trial: all nodes in one group
+lowest_zero : (n : ℕ) → 0 < n → lowest 0 (replicate n 0) ≡ 0
+unfolding lowest
+lowest_zero zero h = absurd (omega arith)
+lowest_zero (suc n) h = refl
+
+pub one_group : (n k : ℕ) → n ≤ k → Firsts (take n (replicate k 0)) (replicate k 0)
+unfolding Firsts
+one_group n k h v p =
+    let t = take-replicate {X = ℕ} n k 0 h in
+    let l : length (take n (replicate {A = ℕ} k 0)) ≡ n = ap length t ∙ length-replicate n 0 in
+    let i : v < n = rw l at p in
+    let z : get_or (replicate {A = ℕ} k 0) v 0 ≡ 0 = get_or-replicate k v 0 0 (omega arith) in
+    let y : get_or (take n (replicate {A = ℕ} k 0)) v 0 ≡ 0 = rw t (get_or-replicate n v 0 0 i) in
+    rw (z, y, t) (sym (lowest_zero n (omega arith)))

@@ -18,8 +18,8 @@ use Rattle.neighbors.specs.Places.{Place, places}
 use Rattle.cluster.specs.Cluster.{cluster, none_labelled}
 use Rattle.settings.specs.declared.config.Config.{Config}
 use Rattle.settings.specs.declared.refusal.Refusal.{Refusal}
-use Rattle.settings.specs.declared.refusal.Checked.{Checked}
-use Rattle.settings.specs.declared.refusal.Checked.TheVariants.{Accepted, Refused}
+use Rattle.std.specs.Prelude.{Ok, Err}
+use Rattle.settings.specs.Checks.{Checked}
 use Rattle.settings.specs.Settings.{check_config}
 use Rattle.checks.specs.Tracks.{check_lengths, check_counts, check_tracks}
 use Rattle.settings.proofs.Turns.{turn_first, turn_rest}
@@ -99,14 +99,14 @@ module _ (c : Config) (xs ys times : List Float) (marks lens : List ℕ) (labels
 
   -- What an accepted fit was given.
   pub record AcceptedFit : Type 0 where
-    pub config : check_config c ≡ Accepted
-    pub tracks : check_tracks xs ys times marks lens labels cap floats words ≡ Accepted
+    pub config : check_config c ≡ Ok tt
+    pub tracks : check_tracks xs ys times marks lens labels cap floats words ≡ Ok tt
     pub fits : fit_traces euclidean c cap ts ≡ fitted f
 
-  passed : (k : Checked) (o : Outcome) → unless_refused k o ≡ fitted f → (k ≡ Accepted) × (o ≡ fitted f)
+  passed : (k : Checked) (o : Outcome) → unless_refused k o ≡ fitted f → (k ≡ Ok tt) × (o ≡ fitted f)
   unfolding unless_refused
-  passed Accepted o e = (refl, e)
-  passed (Refused r) o e = no_way r f e
+  passed (Ok x) o e = (refl, e)
+  passed (Err r) o e = no_way r f e
 
   -- A fit that gives no refusal has accepted its settings and tracks.
   pub accepted : fit c xs ys times marks lens labels cap floats words ≡ fitted f → AcceptedFit
@@ -116,11 +116,11 @@ module _ (c : Config) (xs ys times : List Float) (marks lens : List ℕ) (labels
       let q = passed (check_tracks xs ys times marks lens labels cap floats words) _ p.1 in
       record { config = p.0; tracks = q.0; fits = q.1 }
 
-  pub agreed : check_tracks xs ys times marks lens labels cap floats words ≡ Accepted → Agreed lens (length xs) (length ys) (length times) (length marks) labels
+  pub agreed : check_tracks xs ys times marks lens labels cap floats words ≡ Ok tt → Agreed lens (length xs) (length ys) (length times) (length marks) labels
   unfolding check_tracks
   agreed e = lengths_agree lens (length xs) (length ys) (length times) (length marks) labels (turn_first (check_lengths lens (length xs) (length ys) (length times) (length marks) labels) _ e)
 
-  pub counted : check_tracks xs ys times marks lens labels cap floats words ≡ Accepted → Counted (length lens) (length xs) cap
+  pub counted : check_tracks xs ys times marks lens labels cap floats words ≡ Ok tt → Counted (length lens) (length xs) cap
   unfolding check_tracks
   counted e =
       counts_few (length lens) (length xs) cap

@@ -2,6 +2,7 @@
 use mathlib.Core.Path.{◌≡◌, refl, sym, ap, ap₂, ◌∙◌, subst}
 use mathlib.Core.Bool.{Bool, true, false}
 use mathlib.Core.List.{List}
+use Rattle.std.specs.Prelude.{Result, Ok, Err}
 use Prim.Native.Nat.{ℕ, ◌*◌, ◌≤◌}
 use native.Mathlib.Omega.{arith}
 use borrow.Author.Tests.{le-ltb}
@@ -28,29 +29,33 @@ use Rattle.stay.specs.StepsAll.{AllFound}
 use Rattle.cluster.proofs.FixLabels.{found_labels}
 use Rattle.infostop.specs.Fit.{Fitted, Outcome, refused, fitted, unless_none, given_by, from_places}
 use Rattle.infostop.specs.declared.model.Infostop.{Infostop}
-use Rattle.infostop.specs.declared.answer.Answer.{Answer}
-use Rattle.infostop.specs.declared.answer.Answer.TheVariants.{Labelled, Refused}
+use Rattle.infostop.specs.declared.answer.Labelled.{Labelled}
 use Rattle.infostop.specs.Models.{fitted_model, model_after}
 use Rattle.infostop.specs.Ends.{refused_with, labelled_by, told, told_by, labels_after, Ended}
-use Rattle.infostop.specs.Steps.{Space, medians_in, from_clustering, outcome_in, Grouped, chosen, places_outcome}
+use Rattle.infostop.specs.Steps.{Space, medians_in, from_clustering, outcome_in, Grouped, fit_from, places_outcome}
 use Rattle.lists.proofs.Parts.{lent, back, take_drop_take}
 use Rattle.infostop.proofs.Arrays.{array}
 use Rattle.infostop.proofs.Placed.{medians, found, medians_are, places_in_lem, next_is}
 
 -- A refusal that is the outcome.
-pub refused_ends : (m : Infostop) (old : List ℤ) (o : Outcome) (e : Refusal) → o ≡ refused e → Ended m old o (record { answer = Refused e; model = m }) old
+pub refused_ends : (m : Infostop) (old : List ℤ) (o : Outcome) (e : Refusal) → o ≡ refused e → Ended m old o (fit_from m (Err e)) old
 refused_ends m old o e q = record { answer = ap told (sym q); model = ap (model_after m) (sym q); fixes = ap (labels_after old) (sym q) }
 
 pub no_kept : {A : Type 0} (m : RunMark) (r n t : ℕ) → labelled_by m r ≡ refused_with n t → A
 no_kept m r n t q = absurd (let z : ◌≡◌ {A = ℕ} 0 1 = cc in omega arith)
 
+-- An answer with the model beside what is labelled.
+abbrev pub with_model : Infostop → Result Labelled Refusal → Result (Labelled × Infostop) Refusal
+with_model next (Ok k) = Ok (k, next)
+with_model next (Err e) = Err e
+
 -- An answer that tells the outcome, with the model that fits it.
-ended : (m next : Infostop) (old labels : List ℤ) (o : Outcome) (a : Answer) → told_by a ≡ told o → ((f : Fitted) → o ≡ fitted f → next ≡ fitted_model m.config f) → labels ≡ labels_after old o
-    → Ended m old o (chosen a next m) labels
-ended m next old labels (refused e) (Labelled k r) q h l = no_kept _ _ _ _ q
-ended m next old labels (refused e) (Refused e') q h l = record { answer = q; model = refl; fixes = l }
-ended m next old labels (fitted f) (Labelled k r) q h l = record { answer = q; model = h f refl; fixes = l }
-ended m next old labels (fitted f) (Refused e) q h l = no_kept _ _ _ _ (sym q)
+ended : (m next : Infostop) (old labels : List ℤ) (o : Outcome) (a : Result Labelled Refusal) → told_by a ≡ told o → ((f : Fitted) → o ≡ fitted f → next ≡ fitted_model m.config f) → labels ≡ labels_after old o
+    → Ended m old o (fit_from m (with_model next a)) labels
+ended m next old labels (refused e) (Ok k) q h l = no_kept _ _ _ _ q
+ended m next old labels (refused e) (Err e') q h l = record { answer = q; model = refl; fixes = l }
+ended m next old labels (fitted f) (Ok k) q h l = record { answer = q; model = h f refl; fixes = l }
+ended m next old labels (fitted f) (Err e) q h l = no_kept _ _ _ _ (sym q)
 
 unless_fitted : (b : Bool) (g f : Fitted) → unless_none b g ≡ fitted f → f ≡ g
 unfolding unless_none
@@ -92,7 +97,7 @@ module _ (m : Infostop) (cap k : ℕ) (floats : List Float) (words old : List �
   unfolding from_clustering given_by
   clustered = ap (λ (z : List ℤ). unless_none (none_labelled K.labels) (record { labels = z; places = ps; place_labels = K.labels; mark = K.mark; rounds = K.rounds })) labels_found
 
-  module _ (few : length ps ≤ cap) (xs ys : List Float) (cs : List ℕ) (same : places_in xs ys cs ≡ ps) (a : Answer) (pl labels : List ℤ) (g : Grouped c k xs ys cs floats words old a pl labels) where
+  module _ (few : length ps ≤ cap) (xs ys : List Float) (cs : List ℕ) (same : places_in xs ys cs ≡ ps) (a : Result Labelled Refusal) (pl labels : List ℤ) (g : Grouped c k xs ys cs floats words old a pl labels) where
     outcomes : outcome_in c k xs ys cs floats words old ≡ places_outcome c cap ts
     outcomes =
         ap (λ (z : List Place). from_clustering z (medians_in (length old) k floats) (take (length old) words) (cluster euclidean c.r2 c.label_singleton c.seed z)) same
@@ -103,7 +108,7 @@ module _ (m : Infostop) (cap k : ℕ) (floats : List Float) (words old : List �
     place_labels_lem = g.of_places ∙ ap (λ (z : List Place). (cluster euclidean c.r2 c.label_singleton c.seed z).labels) same
 
     pub placed_end : (next : Infostop) → next ≡ record { config = c; xs = overlay (place_xs ps) (array zero64); ys = overlay (place_ys ps) (array zero64); labels = overlay pl (array (negsuc 0)); count = length ps; fitted = true }
-        → Ended m old (places_outcome c cap ts) (chosen a next m) labels
+        → Ended m old (places_outcome c cap ts) (fit_from m (with_model next a)) labels
     unfolding given_by
     placed_end next e =
         ended m next old labels (places_outcome c cap ts) a (g.answer ∙ ap told outcomes)
@@ -131,7 +136,7 @@ module _ (m : Infostop) (cap k : ℕ) (floats : List Float) (words old : List �
   found_is : fd ≡ ps m cap k floats words old ts space.few_stays room f
   found_is = ap places (medians_are cap k floats words old few space ∙ medians_found m cap k floats words old ts space.few_stays room f)
 
-  pub too_many_end : (capx : ℕ) → capx ≡ cap → ltb capx (length fd) ≡ true → Ended m old (places_outcome m.config cap ts) (record { answer = Refused TooManyPlaces; model = m }) old
+  pub too_many_end : (capx : ℕ) → capx ≡ cap → ltb capx (length fd) ≡ true → Ended m old (places_outcome m.config cap ts) (fit_from m (Err TooManyPlaces)) old
   too_many_end capx e h =
       refused_ends m old (places_outcome m.config cap ts) TooManyPlaces
       (too_many_outcome m cap k floats words old ts space.few_stays room f (ap₂ (λ (z : ℕ) (q : List Place). ltb z (length q)) (sym e) (sym found_is) ∙ h))
@@ -140,11 +145,14 @@ module _ (m : Infostop) (cap k : ℕ) (floats : List Float) (words old : List �
       (hx : px ≡ overlay (place_xs (places_within capx (medians cap k floats words old few space))) (lent 0 cap (array zero64)))
       (hy : py ≡ overlay (place_ys (places_within capx (medians cap k floats words old few space))) (lent 0 cap (array zero64)))
       (hc : pc ≡ overlay (place_counts (places_within capx (medians cap k floats words old few space))) (lent 0 cap (array 0)))
-      (a : Answer) (pl labels : List ℤ) (long : length pl ≡ p)
+      (a : Result Labelled Refusal) (pl labels : List ℤ) (long : length pl ≡ p)
       (g : Grouped m.config k (lent 0 p (back 0 cap px (array zero64))) (lent 0 p (back 0 cap py (array zero64))) (lent 0 p (back 0 cap pc (array 0))) floats words old a pl labels) where
-    pub medians_end : Ended m old (places_outcome m.config cap ts)
-        (chosen a (record { config = m.config; xs = back 0 cap px (array zero64); ys = back 0 cap py (array zero64); labels = back 0 p pl (array (negsuc 0)); count = p; fitted = true }) m) labels
-    medians_end =
-        placed_end m cap k floats words old ts space.few_stays room f (subst (λ (z : List Place). length z ≤ cap) found_is (subst (λ (z : ℕ). length fd ≤ z) ex fits)) _ _ _
+    -- r is the answer, as far as it is looked at.
+    pub medians_end : (r : Result Labelled Refusal) → a ≡ r → Ended m old (places_outcome m.config cap ts)
+        (fit_from m (with_model (record { config = m.config; xs = back 0 cap px (array zero64); ys = back 0 cap py (array zero64); labels = back 0 p pl (array (negsuc 0)); count = p; fitted = true }) r)) labels
+    medians_end r q =
+        subst (λ (z : Result Labelled Refusal). Ended m old (places_outcome m.config cap ts)
+        (fit_from m (with_model (record { config = m.config; xs = back 0 cap px (array zero64); ys = back 0 cap py (array zero64); labels = back 0 p pl (array (negsuc 0)); count = p; fitted = true }) z)) labels) q
+        (placed_end m cap k floats words old ts space.few_stays room f (subst (λ (z : List Place). length z ≤ cap) found_is (subst (λ (z : ℕ). length fd ≤ z) ex fits)) _ _ _
         (places_in_lem cap k floats words old few space p capx px py pc is fits ex hx hy hc ∙ found_is) a pl labels g _
-        (next_is cap k floats words old few space p capx px py pc is fits ex hx hy hc m.config pl _ long found_is)
+        (next_is cap k floats words old few space p capx px py pc is fits ex hx hy hc m.config pl _ long found_is))

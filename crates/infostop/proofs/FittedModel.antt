@@ -1,6 +1,7 @@
 -- The model that a fit hands back with labels: its labels have no gap, and its places differ and are near enough for the distance's bound.
 use mathlib.Core.Path.{◌≡◌, refl, sym, ap, ap₂, ◌∙◌, subst}
 use mathlib.Core.List.{List, [], ◌∷◌, map}
+use Rattle.std.specs.Prelude.{Ok}
 use Prim.Native.Nat.{ℕ, ◌≤◌}
 use native.Mathlib.Omega.{arith}
 use lib.IntN.{ℤ, negsuc}
@@ -18,7 +19,6 @@ use Rattle.settings.specs.declared.config.Config.{Config}
 use Rattle.infostop.specs.Fit.{Fitted, Outcome, refused, fitted, fit}
 use Rattle.infostop.proofs.FittedPlaces.{fit_no_gap, fit_differ, fit_near, fit_places_few, fit_place_labels}
 use Rattle.infostop.specs.declared.model.Infostop.{Infostop}
-use Rattle.infostop.specs.declared.answer.Answer.TheVariants.{Labelled}
 use Rattle.infostop.specs.declared.answer.Fit.{Fit}
 use Rattle.infostop.specs.Models.{fitted_model}
 use Rattle.infostop.specs.Ends.{told, told_by, Ended}
@@ -54,12 +54,12 @@ module _ (m : Infostop) (xs ys times : List Float) (marks lens : List ℕ) (old 
   o = fit m.config xs ys times marks lens (length old) cap floats words
 
   -- For every fit that ends with labels.
-  pub fitted_places : Ended m old o r labels → (k : Mark) (rounds : ℕ) → r.answer ≡ Labelled k rounds → FittedPlaces r.model
+  pub fitted_places : Ended m old o r labels → (k : Mark) (rounds : ℕ) → r.answer ≡ Ok (record { mark = k; rounds = rounds }) → FittedPlaces r.model
   fitted_places x k rounds a = go o refl x
     where
       go : (u : Outcome) → o ≡ u → Ended m old u r labels → FittedPlaces r.model
       go (refused e) q y =
-          let t : told_by (Labelled k rounds) ≡ told (refused e) = ap told_by (sym a) ∙ y.answer in
+          let t : told_by (Ok (record { mark = k; rounds = rounds })) ≡ told (refused e) = ap told_by (sym a) ∙ y.answer in
           absurd (let z : ◌≡◌ {A = ℕ} 0 1 = cc in omega arith)
       go (fitted f) q y =
           subst FittedPlaces (sym y.model)

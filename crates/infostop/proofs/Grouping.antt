@@ -2,6 +2,7 @@
 use mathlib.Core.Path.{◌≡◌, sym, ap, ap₂, ◌∙◌, subst}
 use mathlib.Core.Bool.{Bool, true, false, cond}
 use mathlib.Core.List.{List, []}
+use Rattle.std.specs.Prelude.{Result, Ok, Err}
 use Prim.Native.Nat.{ℕ, ◌+◌, ◌*◌, ◌≤◌}
 use native.Mathlib.Nat.{add-sub_cancel_left}
 use native.Mathlib.Omega.{arith}
@@ -17,12 +18,12 @@ use Rattle.cluster.specs.StepsSlices.{clustering_of, PlaceTable}
 use Rattle.cluster.specs.FixLabels.{stay_labels}
 use Rattle.cluster.specs.Steps.{event_labels}
 use Rattle.settings.specs.declared.config.Config.{Config}
+use Rattle.settings.specs.declared.refusal.Refusal.{Refusal}
 use Rattle.settings.specs.declared.refusal.Refusal.TheVariants.{NoStop}
 -- Named so that the facts are checked before these lemmas.
 use Rattle.infostop.specs.Facts
 use Rattle.infostop.specs.Fit.{refused, fitted, unless_none}
-use Rattle.infostop.specs.declared.answer.Answer.{Answer}
-use Rattle.infostop.specs.declared.answer.Answer.TheVariants.{Labelled, Refused}
+use Rattle.infostop.specs.declared.answer.Labelled.{Labelled}
 use Rattle.infostop.specs.Ends.{told, labels_after}
 use Rattle.infostop.specs.Steps.{PlaceSlices, Space, medians_in, fitted_by, from_clustering, clustering_in, Grouped}
 use Rattle.lists.proofs.Parts.{lent, back, lent_length, back_before}
@@ -65,14 +66,14 @@ module _ (c : Config) (k : ℕ) (xs ys : List Float) (cs : List ℕ) (floats : L
   labels_are : pl ≡ kc.labels
   labels_are = ap (λ (z : Clustering). z.labels) e
 
-  grouped_none : none_labelled pl ≡ true → Grouped c k xs ys cs floats words old (Refused NoStop) pl old
+  grouped_none : none_labelled pl ≡ true → Grouped c k xs ys cs floats words old (Err NoStop) pl old
   grouped_none h =
       let o = none_outcome (places_in xs ys cs) (medians_in (length old) k floats) (take (length old) words) kc (ap none_labelled (sym labels_are) ∙ h) in
       record { of_places = labels_are; answer = ap told (sym o); of_fixes = ap (labels_after old) (sym o) }
 
   grouped_some : none_labelled pl ≡ false → (end : ℕ) (t : List Float) (labels : List ℤ) → k ≤ length old → 4 * length old ≤ length floats
       → labels ≡ event_labels (stay_labels (places_in xs ys cs) pl (points (lent (2 * length old) (2 * length old + k) (back (4 * length old) end t floats)) (lent (3 * length old) (3 * length old + k) (back (4 * length old) end t floats)))) (take (length old) words)
-      → Grouped c k xs ys cs floats words old (Labelled kept.mark kept.rounds) pl labels
+      → Grouped c k xs ys cs floats words old (Ok (record { mark = kept.mark; rounds = kept.rounds })) pl labels
   grouped_some h end t labels few room l =
       let o = some_outcome (places_in xs ys cs) (medians_in (length old) k floats) (take (length old) words) kc (ap none_labelled (sym labels_are) ∙ h)
       in
@@ -84,10 +85,10 @@ module _ (c : Config) (k : ℕ) (xs ys : List Float) (cs : List ℕ) (floats : L
       }
 
   -- Labels are written where some place has one.
-  pub grouped : (b : Bool) → b ≡ none_labelled pl → (a : Answer) → a ≡ cond b (Refused NoStop) (Labelled kept.mark kept.rounds) → (end : ℕ) (t : List Float) (labels : List ℤ) → k ≤ length old → 4 * length old ≤ length floats
+  pub grouped : (b : Bool) → b ≡ none_labelled pl → (a : Result Labelled Refusal) → a ≡ cond b (Err NoStop) (Ok (record { mark = kept.mark; rounds = kept.rounds })) → (end : ℕ) (t : List Float) (labels : List ℤ) → k ≤ length old → 4 * length old ≤ length floats
       → labels ≡ cond b old (event_labels (stay_labels (places_in xs ys cs) pl (points (lent (2 * length old) (2 * length old + k) (back (4 * length old) end t floats)) (lent (3 * length old) (3 * length old + k) (back (4 * length old) end t floats)))) (take (length old) words))
       → Grouped c k xs ys cs floats words old a pl labels
   grouped true h a p end t labels few room l =
-      subst (λ (z : Answer). Grouped c k xs ys cs floats words old z pl labels) (sym p)
-      (subst (λ (z : List ℤ). Grouped c k xs ys cs floats words old (Refused NoStop) pl z) (sym l) (grouped_none (sym h)))
-  grouped false h a p end t labels few room l = subst (λ (z : Answer). Grouped c k xs ys cs floats words old z pl labels) (sym p) (grouped_some (sym h) end t labels few room l)
+      subst (λ (z : Result Labelled Refusal). Grouped c k xs ys cs floats words old z pl labels) (sym p)
+      (subst (λ (z : List ℤ). Grouped c k xs ys cs floats words old (Err NoStop) pl z) (sym l) (grouped_none (sym h)))
+  grouped false h a p end t labels few room l = subst (λ (z : Result Labelled Refusal). Grouped c k xs ys cs floats words old z pl labels) (sym p) (grouped_some (sym h) end t labels few room l)

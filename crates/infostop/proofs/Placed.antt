@@ -1,24 +1,23 @@
 -- The places of the stays' medians: how many they are, and the slices that hold them.
-use mathlib.Core.Path.{◌≡◌, refl, sym, ap, ap₂, ◌∙◌, subst}
-use mathlib.Core.Bool.{Bool, true, false, cond}
+use mathlib.Core.Path.{◌≡◌, sym, ap, ap₂, ◌∙◌, subst}
+use mathlib.Core.Bool.{true}
 use mathlib.Core.List.{List, [], ◌∷◌}
+use Rattle.std.specs.Prelude.{Option, Some, None}
 use Prim.Native.Nat.{ℕ, ◌+◌, ◌*◌, ◌<◌, ◌≤◌}
 use native.Mathlib.Nat.{add-sub_cancel_left, mul-le-mul}
 use native.Mathlib.Omega.{arith}
-use borrow.Author.Tests.{leb-true, leb-false, lt-ltb}
-use lib.Dec.{leb, ltb}
+use borrow.Author.Tests.{lt-ltb}
+use lib.Dec.{ltb}
 use lib.IntN.{ℤ, negsuc}
 use lib.ListN.{length, take, drop}
 use lib.Ieee.{Float}
 use Rattle.lists.specs.Lists.{overlay}
 use Rattle.float.specs.Binary64.{zero64}
 use Rattle.distance.specs.declared.Point.{Point}
-use Rattle.neighbors.specs.declared.places.PlaceCount.{PlaceCount}
-use Rattle.neighbors.specs.declared.places.PlaceCount.TheVariants.{Places, TooMany}
 use Rattle.neighbors.specs.Places.{Place, place_at, places, places_in, place_xs, place_ys}
 use Rattle.neighbors.specs.StepsPlaces.{places_within, stay_count, place_counts, distinct_within}
 use Rattle.distance.specs.Distance.{points}
-use Rattle.neighbors.proofs.Within.{within_places, length_place_xs, length_place_ys, length_place_counts, places_columns}
+use Rattle.neighbors.proofs.Within.{within_some, within_none, within_places, length_place_xs, length_place_ys, length_place_counts, places_columns}
 use Rattle.neighbors.proofs.Found.{counted, all_counted}
 use Rattle.settings.specs.declared.config.Config.{Config}
 use Rattle.infostop.specs.declared.model.Infostop.{Infostop}
@@ -28,23 +27,13 @@ use Rattle.infostop.proofs.Arrays.{array, array_front, array_whole, column}
 
 -- ---- how many places
 
-pub too_many : (r : PlaceCount) (cap : ℕ) (ps : List Place) → r ≡ distinct_within cap ps → r ≡ TooMany → ltb cap (length ps) ≡ true
-unfolding distinct_within
-too_many r cap ps e q = go (leb (length ps) cap) refl (sym q ∙ e)
-  where
-    go : (b : Bool) → leb (length ps) cap ≡ b → TooMany ≡ cond b (Places (length ps)) TooMany → ltb cap (length ps) ≡ true
-    go true x z = absurd (let y : ◌≡◌ {A = ℕ} 0 1 = cc in omega arith)
-    go false x z = lt-ltb cap (length ps) (leb-false (length ps) cap x)
+pub too_many : (r : Option ℕ) (cap : ℕ) (ps : List Place) → r ≡ distinct_within cap ps → r ≡ None → ltb cap (length ps) ≡ true
+too_many r cap ps e q = lt-ltb cap (length ps) (within_none cap ps (sym q ∙ e))
 
-pub some_places : (r : PlaceCount) (p cap : ℕ) (ps : List Place) → r ≡ distinct_within cap ps → r ≡ Places p → (p ≡ length ps) × (length ps ≤ cap)
-unfolding distinct_within
-some_places r p cap ps e q = go (leb (length ps) cap) refl (sym q ∙ e)
-  where
-    go : (b : Bool) → leb (length ps) cap ≡ b → Places p ≡ cond b (Places (length ps)) TooMany → (p ≡ length ps) × (length ps ≤ cap)
-    go true x z = (cc, leb-true (length ps) cap x)
-    go false x z = absurd (let y : ◌≡◌ {A = ℕ} 0 1 = cc in omega arith)
+pub some_places : (r : Option ℕ) (p cap : ℕ) (ps : List Place) → r ≡ distinct_within cap ps → r ≡ Some p → (p ≡ length ps) × (length ps ≤ cap)
+some_places r p cap ps e q = let z = within_some cap ps p (sym q ∙ e) in (z.0, omega arith)
 
-pub places_fit : (r : PlaceCount) (p cap capx : ℕ) (ps : List Place) → r ≡ distinct_within capx ps → r ≡ Places p → capx ≡ cap → p ≤ cap
+pub places_fit : (r : Option ℕ) (p cap capx : ℕ) (ps : List Place) → r ≡ distinct_within capx ps → r ≡ Some p → capx ≡ cap → p ≤ cap
 places_fit r p cap capx ps e q h = let z = some_places r p capx ps e q in omega arith
 
 points_few : (xs ys : List Float) → length (points xs ys) ≤ length xs

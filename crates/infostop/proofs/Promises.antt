@@ -2,6 +2,7 @@
 use mathlib.Core.Path.{◌≡◌, refl, sym, ap, ◌∙◌, subst}
 use mathlib.Core.Bool.{Bool, true, false}
 use mathlib.Core.List.{List, [], ◌∷◌}
+use Rattle.std.specs.Prelude.{Ok, Err}
 use Prim.Native.Nat.{ℕ}
 use lib.Dec.{ltb}
 use lib.IntN.{ℤ}
@@ -16,7 +17,6 @@ use Rattle.infomap.specs.Infomap.{RunMark, mark_of}
 use Rattle.cluster.specs.Cluster.{cluster, none_labelled}
 use Rattle.settings.specs.declared.config.Config.{Config}
 use Rattle.settings.specs.declared.refusal.Refusal.{Refusal}
-use Rattle.settings.specs.declared.refusal.Checked.TheVariants as checked
 use Rattle.settings.specs.Settings.{check_config}
 use Rattle.checks.specs.Tracks.{check_tracks}
 use Rattle.stay.specs.Stays.{all_medians}
@@ -24,9 +24,9 @@ use Rattle.infostop.specs.Demand.{Demand3}
 use Rattle.infostop.specs.Fit.{Fitted, Outcome, refused, fitted, unless_none, given_by, from_places, from_medians, fit_traces, unless_refused, fit}
 use Rattle.infostop.proofs.Accepted.{fit_demand3}
 use Rattle.infostop.specs.declared.model.Infostop.{Infostop}
-use Rattle.infostop.specs.declared.answer.Answer.TheVariants.{Refused}
 use Rattle.infostop.specs.declared.answer.Fit.{Fit}
 use Rattle.infostop.specs.Ends.{labelled_by, told_by, Ended, keeps_work, WorkEnds, HoldsDemand3, Promised}
+use Rattle.infostop.specs.Steps.{fit_from}
 use Rattle.infostop.proofs.Ending.{no_kept, refused_ends}
 
 -- ---- the fit by its checks
@@ -34,16 +34,16 @@ module _ (c : Config) (xs ys times : List Float) (marks lens : List ℕ) (labels
   abbrev outcome : Outcome
   outcome = fit c xs ys times marks lens labels cap floats words
 
-  pub config_refused : (e : Refusal) → check_config c ≡ checked.Refused e → outcome ≡ refused e
+  pub config_refused : (e : Refusal) → check_config c ≡ Err e → outcome ≡ refused e
   unfolding fit unless_refused
   config_refused e q = rw q refl
 
-  pub tracks_refused : (e : Refusal) → check_config c ≡ checked.Accepted → check_tracks xs ys times marks lens labels cap floats words ≡ checked.Refused e → outcome ≡ refused e
+  pub tracks_refused : (e : Refusal) → check_config c ≡ Ok tt → check_tracks xs ys times marks lens labels cap floats words ≡ Err e → outcome ≡ refused e
   unfolding fit unless_refused
   tracks_refused e p q = rw (p, q) refl
 
   pub both_accepted :
-      check_config c ≡ checked.Accepted → check_tracks xs ys times marks lens labels cap floats words ≡ checked.Accepted → outcome ≡ fit_traces
+      check_config c ≡ Ok tt → check_tracks xs ys times marks lens labels cap floats words ≡ Ok tt → outcome ≡ fit_traces
       euclidean c cap (traces lens (fixes xs ys times marks))
   unfolding fit unless_refused
   both_accepted p q = rw (p, q) refl
@@ -114,11 +114,11 @@ module _ (m : Infostop) (xs ys times : List Float) (marks lens : List ℕ) (old 
   promised r labels floats' words' x w = record { ended = x; work = w; demand3 = ended_demand3 m xs ys times marks lens old cap (length floats) (length words) r labels x }
 
   -- A refusal by the checks.
-  pub promised_refused : (e : Refusal) → whole ≡ refused e → Holds (record { answer = Refused e; model = m }) old floats words
+  pub promised_refused : (e : Refusal) → whole ≡ refused e → Holds (fit_from m (Err e)) old floats words
   promised_refused e q = promised _ _ _ _ (refused_ends m old whole e q) (λ z. (refl, refl))
 
   -- What comes after them.
-  pub promised_fit : (r : Fit) (labels : List ℤ) (floats' : List Float) (words' : List ℤ) → check_config m.config ≡ checked.Accepted → check_tracks xs ys times marks lens (length old) cap (length floats) (length words) ≡ checked.Accepted
+  pub promised_fit : (r : Fit) (labels : List ℤ) (floats' : List Float) (words' : List ℤ) → check_config m.config ≡ Ok tt → check_tracks xs ys times marks lens (length old) cap (length floats) (length words) ≡ Ok tt
       → Ended m old (fit_traces euclidean m.config cap tracks) r labels → Holds r labels floats' words'
   promised_fit r labels floats' words' p q x =
       let b = both_accepted m.config xs ys times marks lens (length old) cap (length floats) (length words) p q in

@@ -9,13 +9,13 @@ use lib.IntN.{ℤ}
 use lib.ListN.{length, take, drop}
 use lib.Seq.{take_at}
 use lib.Ieee.{Float}
+use Rattle.std.specs.Prelude.{Ok}
 use Rattle.distance.specs.declared.Point.{Point}
 use Rattle.distance.specs.Distance.{euclidean}
 use Rattle.settings.specs.declared.config.Config.{Config}
 use Rattle.trace.specs.Trace.{Fix}
 use Rattle.neighbors.specs.Places.{places}
 use Rattle.settings.specs.declared.refusal.Refusal.TheVariants.{NoStop}
-use Rattle.settings.specs.declared.refusal.Checked.TheVariants.{Accepted}
 use Rattle.checks.specs.Tracks.{check_tracks}
 use Rattle.checks.proofs.Accepted.{AcceptedFit, tracks_accepted}
 use Rattle.stay.specs.Stays.{all_medians}
@@ -25,7 +25,7 @@ use Rattle.infostop.specs.Steps.{Space, places_outcome}
 use Rattle.lists.proofs.Parts.{lent, back, lent_length, back_length}
 
 module _ (xs ys ts : List Float) (ms lens : List ℕ) (floats : List Float) (words old : List ℤ) (cap : ℕ)
-    (h : check_tracks xs ys ts ms lens (length old) cap (length floats) (length words) ≡ Accepted) where
+    (h : check_tracks xs ys ts ms lens (length old) cap (length floats) (length words) ≡ Ok tt) where
   accepted : AcceptedFit xs ys ts ms lens (length old) cap (length floats) (length words)
   accepted = tracks_accepted xs ys ts ms lens (length old) cap (length floats) (length words) h
 

@@ -1,17 +1,17 @@
 -- How a fit ends for its caller: what is told, the model, the labels and the work slices, by the outcome that `fit` (Fit.antt) defines; and demand 3
 -- of what the caller then holds. Definitions only.
-use Rattle.std.specs.Prelude.{◌≡◌, ℕ, Bool, true, false, not, ◌&&◌, List, eqb, ℤ, Float}
+use Rattle.std.specs.Prelude.{◌≡◌, ℕ, Bool, true, false, not, ◌&&◌, List, eqb, ℤ, Float, Result, Ok, Err}
 use Rattle.distance.specs.Distance.{euclidean}
 use Rattle.trace.specs.Trace.{Fix}
 use Rattle.infomap.specs.declared.Mark.{Mark}
 use Rattle.infomap.specs.Infomap.{RunMark, mark_of}
 use Rattle.settings.specs.declared.config.Config.{Config}
+use Rattle.settings.specs.declared.refusal.Refusal.{Refusal}
 use Rattle.settings.specs.Refusals.{number_of, trace_of}
 use Rattle.infostop.specs.Demand.{Demand3}
 use Rattle.infostop.specs.Fit.{Outcome, refused, fitted}
 use Rattle.infostop.specs.declared.model.Infostop.{Infostop}
-use Rattle.infostop.specs.declared.answer.Answer.{Answer}
-use Rattle.infostop.specs.declared.answer.Answer.TheVariants.{Labelled, Refused}
+use Rattle.infostop.specs.declared.answer.Labelled.{Labelled}
 use Rattle.infostop.specs.declared.answer.Fit.{Fit}
 use Rattle.infostop.specs.Models.{model_after}
 
@@ -25,9 +25,9 @@ told (refused e) = refused_with (number_of e) (trace_of e)
 told (fitted f) = labelled_by f.mark f.rounds
 
 -- The same of each case of the code's answer.
-abbrev pub told_by : Answer → Told
-told_by (Labelled m r) = labelled_by (mark_of m) r
-told_by (Refused e) = refused_with (number_of e) (trace_of e)
+abbrev pub told_by : Result Labelled Refusal → Told
+told_by (Ok k) = labelled_by (mark_of k.mark) k.rounds
+told_by (Err e) = refused_with (number_of e) (trace_of e)
 
 -- A refusal leaves the labels as they were.
 abbrev pub labels_after : List ℤ → Outcome → List ℤ
@@ -52,7 +52,7 @@ WorkEnds o floats words floats' words' = keeps_work o ≡ true → (floats' ≡ 
 -- Demand 3 of every accepted fit with settings c over the traces ts: of the labels that the caller then holds, and of the mark that was answered.
 -- Its medians, links and chains are those of the medians on the grid of c.
 abbrev pub HoldsDemand3 : Config → List (List Fix) → Fit → List ℤ → Type 0
-HoldsDemand3 c ts r labels = (m : Mark) (rounds : ℕ) → r.answer ≡ Labelled m rounds → Demand3 (record { dist = euclidean; config = c; traces = ts; labels = labels; mark = mark_of m })
+HoldsDemand3 c ts r labels = (m : Mark) (rounds : ℕ) → r.answer ≡ Ok (record { mark = m; rounds = rounds }) → Demand3 (record { dist = euclidean; config = c; traces = ts; labels = labels; mark = mark_of m })
 
 -- What a fit with the model m promises, whose outcome by the definition is o, over the traces ts: how it ends for the caller's labels `old` and
 -- the work slices, and demand 3. Behind them what the caller then holds.

@@ -1,5 +1,5 @@
 -- The whole fit: from settings and the caller's slices to a refusal, or labels, places, mark and rounds (docs/RULES.md). Definitions only.
-use Rattle.std.specs.Prelude.{ℕ, Bool, ltb, ℤ, length, Float}
+use Rattle.std.specs.Prelude.{ℕ, Bool, ltb, ℤ, length, Float, Ok, Err}
 use Rattle.std.proofs.Math.Bool.{true, false}
 use mathlib.Core.List.{List, [], ◌∷◌}
 use Rattle.distance.specs.declared.Point.{Point}
@@ -11,8 +11,7 @@ use Rattle.infomap.specs.Infomap.{RunMark}
 use Rattle.cluster.specs.Cluster.{Clustering, cluster, none_labelled}
 use Rattle.settings.specs.declared.refusal.Refusal.{Refusal}
 use Rattle.settings.specs.declared.refusal.Refusal.TheVariants.{NoStop, TooManyPlaces}
-use Rattle.settings.specs.declared.refusal.Checked.{Checked}
-use Rattle.settings.specs.declared.refusal.Checked.TheVariants.{Accepted, Refused}
+use Rattle.settings.specs.Checks.{Checked}
 use Rattle.settings.specs.Settings.{check_config}
 use Rattle.checks.specs.Tracks.{check_tracks}
 use Rattle.stay.specs.Stays.{all_medians}
@@ -60,8 +59,8 @@ module _ (dist : Metric) (c : Config) (cap : ℕ) (ts : List (List Fix)) where
 
 -- A check comes first.
 unfoldable pub unless_refused : Checked → Outcome → Outcome
-unless_refused Accepted o = o
-unless_refused (Refused e) o = refused e
+unless_refused (Ok x) o = o
+unless_refused (Err e) o = refused e
 
 -- `fit_predict_many` over the caller's slices: 1 to 6, 23, 24; 7 to 17; 18, 19, 18. `labels`, `floats` and `words` are the lengths of the label slice and of the work slices.
 unfoldable pub fit : Config → List Float → List Float → List Float → List ℕ → List ℕ → ℕ → ℕ → ℕ → ℕ → Outcome

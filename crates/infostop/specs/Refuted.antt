@@ -1,6 +1,6 @@
 -- What the promises of a fit rule out: for each of their fields a small wrong answer, and the proof that the promise is false of it.
 use Rattle.std.proofs.Math.Path.{◌≡◌, ap}
-use Rattle.std.specs.Prelude.{refl, ◌≢◌, ◌⊎◌, ℕ, zero, suc, ◌<◌, true, false, List, [], ◌∷◌, ℤ, pos, negsuc, length, get_or, Float}
+use Rattle.std.specs.Prelude.{refl, ◌≢◌, ◌⊎◌, ℕ, zero, suc, ◌<◌, true, false, List, [], ◌∷◌, ℤ, pos, negsuc, length, get_or, Float, Ok, Err}
 use Rattle.std.proofs.Common.{sym, ◌∙◌, subst, inl, inr, true≢false}
 use Rattle.std.proofs.Math.Option.{none, some}
 use native.Mathlib.Omega.{arith}
@@ -31,7 +31,6 @@ use Rattle.infostop.specs.Demand.{Given, is_in, label_in, numbered, net, medians
 use Rattle.infostop.specs.Fit.{Fitted, refused, fitted}
 use Rattle.settings.specs.Tries.{with_step, settings}
 use Rattle.infostop.specs.declared.model.Infostop.{Infostop}
-use Rattle.infostop.specs.declared.answer.Answer.TheVariants.{Labelled, Refused}
 use Rattle.infostop.specs.declared.answer.Fit.{Fit}
 use Rattle.scan.specs.Scan.{margin}
 use Rattle.optimize.specs.Examples.{trial_computed}
@@ -308,19 +307,19 @@ better_alone_lem d =
 -- ---- how a fit ends
 module _ (m : Infostop) (old : List ℤ) (r : Fit) (labels : List ℤ) where
   -- Spent without rounds, for a run that came to rest after two.
-  pub spent_unrun : (f : Fitted) → f.mark ≡ rest → f.rounds ≡ 2 → r.answer ≡ Labelled Spent 0 → False (Ended m old (fitted f) r labels)
+  pub spent_unrun : (f : Fitted) → f.mark ≡ rest → f.rounds ≡ 2 → r.answer ≡ Ok (record { mark = Spent; rounds = 0 }) → False (Ended m old (fitted f) r labels)
   unfolding mark_of
   spent_unrun f e n a x = let q = ap told_by (sym a) ∙ x.answer in let z : ◌≡◌ {A = ℕ} 0 1 = cc in omega arith
 
   -- Rounds that are not counted.
-  pub rounds_uncounted : (f : Fitted) → f.rounds ≡ 2 → r.answer ≡ Labelled Rest 0 → False (Ended m old (fitted f) r labels)
+  pub rounds_uncounted : (f : Fitted) → f.rounds ≡ 2 → r.answer ≡ Ok (record { mark = Rest; rounds = 0 }) → False (Ended m old (fitted f) r labels)
   rounds_uncounted f n a x = let q = ap told_by (sym a) ∙ x.answer in let z : 0 ≡ f.rounds = cc in omega arith
 
   -- 18 where 19 is due, and another trace's number.
-  pub wrong_number : r.answer ≡ Refused NoStop → False (Ended m old (refused TooManyPlaces) r labels)
+  pub wrong_number : r.answer ≡ Err NoStop → False (Ended m old (refused TooManyPlaces) r labels)
   wrong_number a x = let q = ap told_by (sym a) ∙ x.answer in let z : ◌≡◌ {A = ℕ} 18 19 = cc in omega arith
 
-  pub wrong_trace : r.answer ≡ Refused (TimeOrder 1) → False (Ended m old (refused (TimeOrder 0)) r labels)
+  pub wrong_trace : r.answer ≡ Err (TimeOrder 1) → False (Ended m old (refused (TimeOrder 0)) r labels)
   wrong_trace a x = let q = ap told_by (sym a) ∙ x.answer in let z : ◌≡◌ {A = ℕ} 1 0 = cc in omega arith
 
   -- A refusal, and labels that are not as they were.

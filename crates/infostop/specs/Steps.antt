@@ -1,6 +1,6 @@
 -- Serves the contracts of this crate's own functions; no public contract reaches it.
 -- What the steps of the code ask for and work out.
-use Rattle.std.specs.Prelude.{◌≡◌, ℕ, ◌+◌, ◌*◌, ◌<◌, ◌≤◌, Bool, cond, List, ltb, ℤ, length, take, drop, Float}
+use Rattle.std.specs.Prelude.{◌≡◌, ℕ, ◌+◌, ◌*◌, ◌<◌, ◌≤◌, Bool, cond, List, ltb, ℤ, length, take, drop, Float, Result, Ok, Err}
 use Rattle.distance.specs.declared.Point.{Point}
 use Rattle.distance.specs.Distance.{euclidean, points}
 use Rattle.trace.specs.Trace.{Fix, fixes, traces}
@@ -12,10 +12,10 @@ use Rattle.stay.specs.StepsAll.{AllFound}
 use Rattle.cluster.specs.FixLabels.{stay_labels}
 use Rattle.cluster.specs.Steps.{event_labels}
 use Rattle.settings.specs.declared.config.Config.{Config}
+use Rattle.settings.specs.declared.refusal.Refusal.{Refusal}
 use Rattle.infostop.specs.Fit.{Fitted, Outcome, unless_none, from_places, fit_traces}
 use Rattle.infostop.specs.declared.model.Infostop.{Infostop}
-use Rattle.infostop.specs.declared.answer.Answer.{Answer}
-use Rattle.infostop.specs.declared.answer.Answer.TheVariants.{Labelled, Refused}
+use Rattle.infostop.specs.declared.answer.Labelled.{Labelled}
 use Rattle.infostop.specs.declared.answer.Fit.{Fit}
 use Rattle.infostop.specs.Ends.{told, told_by, labels_after, Ended}
 
@@ -54,15 +54,15 @@ module _ (c : Config) (k : ℕ) (xs ys : List Float) (cs : List ℕ) (floats : L
   abbrev pub outcome_in : Outcome
   outcome_in = from_clustering (places_in xs ys cs) (medians_in (length old) k floats) (take (length old) words) clustering_in
 
-  pub record Grouped (a : Answer) (place_labels labels : List ℤ) : Type 0 where
+  pub record Grouped (a : Result Labelled Refusal) (place_labels labels : List ℤ) : Type 0 where
     pub of_places : place_labels ≡ clustering_in.labels
     pub answer : told_by a ≡ told outcome_in
     pub of_fixes : labels ≡ labels_after old outcome_in
 
--- The next model, unless the answer is a refusal.
-abbrev pub chosen : Answer → Infostop → Infostop → Fit
-chosen (Labelled m r) next old = record { answer = Labelled m r; model = next }
-chosen (Refused e) next old = record { answer = Refused e; model = old }
+-- What a fit with the model m hands back: what is labelled and the next model, or the refusal and m.
+abbrev pub fit_from : Infostop → Result (Labelled × Infostop) Refusal → Fit
+fit_from m (Ok p) = record { answer = Ok p.0; model = p.1 }
+fit_from m (Err e) = record { answer = Err e; model = m }
 
 -- The fit from the distinct medians of the traces on: 19, then the grouping.
 abbrev pub places_outcome : Config → ℕ → List (List Fix) → Outcome
@@ -75,11 +75,11 @@ FixLabelsAre none mx my px py pl words old labels =
     → labels ≡ cond none old (event_labels (stay_labels (places_in px py cs) pl (points mx my)) (take (length old) words))
 
 -- How a fit ends whose stays are found: their medians and numbers stand in the work slices.
-abbrev pub EndsFromStays : Infostop → ℕ → ℕ → List Float → List ℤ → List ℤ → Fit → List ℤ → Type 0
+abbrev pub EndsFromStays : Infostop → ℕ → ℕ → List Float → List ℤ → List ℤ → Result (Labelled × Infostop) Refusal → List ℤ → Type 0
 EndsFromStays m k cap floats words old r labels =
     (ts : List (List Fix)) → AllFound m.config ts (length old) (take (4 * length old) floats) (take (length old) words) k
-    → Ended m old (places_outcome m.config cap ts) r labels
+    → Ended m old (places_outcome m.config cap ts) (fit_from m r) labels
 
 -- How a fit of tracks ends that have passed the checks.
-abbrev pub EndsFromTracks : Infostop → List Float → List Float → List Float → List ℕ → List ℕ → List ℤ → ℕ → Fit → List ℤ → Type 0
-EndsFromTracks m xs ys times marks lens old cap r labels = Ended m old (fit_traces euclidean m.config cap (traces lens (fixes xs ys times marks))) r labels
+abbrev pub EndsFromTracks : Infostop → List Float → List Float → List Float → List ℕ → List ℕ → List ℤ → ℕ → Result (Labelled × Infostop) Refusal → List ℤ → Type 0
+EndsFromTracks m xs ys times marks lens old cap r labels = Ended m old (fit_traces euclidean m.config cap (traces lens (fixes xs ys times marks))) (fit_from m r) labels

@@ -3,16 +3,16 @@ use crate::model::Infostop;
 use infomap::Mark;
 use settings::refusal::Refusal;
 
-// The mark and the rounds of the kept trial, or the refusal.
-#[derive(Clone, Copy)]
-pub enum Answer {
-    Labelled(Mark, u32),
-    Refused(Refusal),
+// The mark and the rounds of the kept trial.
+#[derive(Clone, Copy, Debug, PartialEq, Eq)]
+pub struct Labelled {
+    pub mark: Mark,
+    pub rounds: u32,
 }
 
-// The answer, and the model.
-#[derive(Clone, Copy)]
+// The answer, or the refusal, and the model: by value, as the rules have it.
+#[derive(Clone, Copy, Debug, PartialEq)]
 pub struct Fit {
-    pub answer: Answer,
+    pub answer: Result<Labelled, Refusal>,
     pub model: Infostop,
 }

@@ -3,9 +3,9 @@ ghost use Rattle.std.specs.Prelude.{◌≡◌};
 ghost use Rattle.infostop.specs.Models.{fresh_model, from_config};
 
 use settings::config::Config;
-use settings::refusal::Checked;
+use settings::refusal::Refusal;
 
-#[derive(Clone, Copy)]
+#[derive(Clone, Copy, Debug, PartialEq)]
 pub struct Infostop {
     pub config: Config,
     pub xs: [f64; 512],
@@ -16,9 +16,10 @@ pub struct Infostop {
 }
 
 // The check of the settings, and a model. That of refused settings is of no use: a fit refuses it again, a report finds it not fitted.
-#[derive(Clone, Copy)]
+// Kept as it is: a Result would hand back no model where the settings are refused, and this has always handed one back.
+#[derive(Clone, Copy, Debug, PartialEq)]
 pub struct Made {
-    pub checked: Checked,
+    pub checked: Result<(), Refusal>,
     pub model: Infostop,
 }
 

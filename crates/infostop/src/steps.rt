@@ -1,16 +1,14 @@
 // The steps of a fit whose tracks have passed the checks: stays, places, labels of places, labels of fixes.
-ghost use Rattle.std.specs.Prelude.{◌≡◌, cond, ◌+◌, ◌*◌, ◌≤◌, length};
+// Kept as it is: arrays of fixed size, of which a part is lent, since the project's memory is fixed and it takes no heap.
+ghost use Rattle.std.specs.Prelude.{◌≡◌, cond, ◌+◌, ◌*◌, ◌≤◌, length, Ok, Err};
 ghost use Rattle.trace.specs.Trace.{fixes};
 ghost use Rattle.settings.specs.declared.refusal.Refusal.TheVariants.{NoStop};
-ghost use Rattle.settings.specs.declared.refusal.Checked.TheVariants.{Accepted};
 ghost use Rattle.checks.specs.Tracks.{check_tracks};
-ghost use Rattle.infostop.specs.declared.answer.Answer.TheVariants.{Labelled, Refused};
-ghost use Rattle.infostop.specs.Steps.{PlaceSlices, Space, Grouped, FixLabelsAre, EndsFromStays, EndsFromTracks, chosen};
+ghost use Rattle.infostop.specs.Steps.{PlaceSlices, Space, Grouped, FixLabelsAre, EndsFromStays, EndsFromTracks};
 
-use crate::answer::{Answer, Fit};
+use crate::answer::Labelled;
 use crate::model::Infostop;
 use infomap::Kept;
-use neighbors::places::PlaceCount;
 use settings::config::Config;
 use settings::refusal::Refusal;
 
@@ -39,15 +37,16 @@ fn label_fixes(
 }
 
 // 18 where no place has a label, else what was kept.
-fn answer_of(none: bool, kept: Kept) -> Answer
-    ensures { result ≡ cond none (Refused NoStop) (Labelled kept.mark kept.rounds) }
+fn answer_of(none: bool, kept: Kept) -> Result<Labelled, Refusal>
+    ensures { result ≡ cond none (Err NoStop) (Ok (record { mark = kept.mark; rounds = kept.rounds })) }
 {
     if none {
-        return Answer::Refused(Refusal::NoStop);
+        return Err(Refusal::NoStop);
     }
-    let mark = kept.mark;
-    let rounds = kept.rounds;
-    Answer::Labelled(mark, rounds)
+    Ok(Labelled {
+        mark: kept.mark,
+        rounds: kept.rounds,
+    })
 }
 
 // The labels of the places by their groups, then of the fixes; 18 where all labels are -1. The medians of the k stays stand in the third and the
@@ -62,7 +61,7 @@ fn label_tracks(
     floats: &mut [f64],
     words: &mut [i32],
     labels: &mut [i32],
-) -> Answer
+) -> Result<Labelled, Refusal>
     requires { (PlaceSlices px.now py.now counts.now (length pl.old)) × (Space (length labels.old) k (length px.now) (length floats.old) (length words.old)) }
     ensures { Grouped c k px.now py.now counts.now floats.old words.old labels.old result pl.new labels.new }
 {
@@ -97,33 +96,17 @@ fn label_tracks(
     answer_of(none, kept)
 }
 
-// The answer with the next model; where it is a refusal, with the old one.
-fn with_model(a: Answer, next: Infostop, old: Infostop) -> Fit
-    ensures { result ≡ chosen a next old }
-{
-    match a {
-        Answer::Labelled(mark, rounds) => Fit {
-            answer: Answer::Labelled(mark, rounds),
-            model: next,
-        },
-        Answer::Refused(e) => Fit {
-            answer: Answer::Refused(e),
-            model: old,
-        },
-    }
-}
-
-// From the medians and the stay numbers of k stays in the work slices: the places, 19, and the labels.
+// What is labelled and the next model, from the medians and the stay numbers of k stays in the work slices: the places, 19, and the labels.
 fn from_medians(
-    model: Infostop,
+    model: &Infostop,
     k: usize,
     places: usize,
     floats: &mut [f64],
     words: &mut [i32],
     labels: &mut [i32],
-) -> Fit
+) -> Result<(Labelled, Infostop), Refusal>
     requires { (places ≤ 512) × (Space (length labels.old) k places (length floats.old) (length words.old)) }
-    ensures { EndsFromStays model k places floats.old words.old labels.old result labels.new }
+    ensures { EndsFromStays model.now k places floats.old words.old labels.old result labels.new }
 {
     let n = labels.len();
     let x = 2 * n;
@@ -140,41 +123,36 @@ fn from_medians(
         &mut py[0..places],
         &mut counts[0..places],
     );
-    match found {
-        PlaceCount::TooMany => Fit {
-            answer: Answer::Refused(Refusal::TooManyPlaces),
-            model: model,
-        },
-        PlaceCount::Places(p) => {
-            let config = model.config;
-            let mut place_labels = [-1i32; 512];
-            let a = label_tracks(
-                config,
-                k,
-                &px[0..p],
-                &py[0..p],
-                &counts[0..p],
-                &mut place_labels[0..p],
-                floats,
-                words,
-                labels,
-            );
-            let next = Infostop {
-                config: config,
-                xs: px,
-                ys: py,
-                labels: place_labels,
-                count: p,
-                fitted: true,
-            };
-            with_model(a, next, model)
-        }
-    }
+    let Some(p) = found else {
+        return Err(Refusal::TooManyPlaces);
+    };
+    let config = model.config;
+    let mut place_labels = [-1i32; 512];
+    let labelled = label_tracks(
+        config,
+        k,
+        &px[0..p],
+        &py[0..p],
+        &counts[0..p],
+        &mut place_labels[0..p],
+        floats,
+        words,
+        labels,
+    )?;
+    let next = Infostop {
+        config,
+        xs: px,
+        ys: py,
+        labels: place_labels,
+        count: p,
+        fitted: true,
+    };
+    Ok((labelled, next))
 }
 
 // The fit of tracks that have passed the checks.
 pub fn from_tracks(
-    model: Infostop,
+    model: &Infostop,
     xs: &[f64],
     ys: &[f64],
     times: &[f64],
@@ -184,12 +162,11 @@ pub fn from_tracks(
     places: usize,
     floats: &mut [f64],
     words: &mut [i32],
-) -> Fit
-    requires { check_tracks xs.now ys.now times.now marks.now lens.now (length labels.old) places (length floats.old) (length words.old) ≡ Accepted }
-    ensures { EndsFromTracks model xs.now ys.now times.now marks.now lens.now labels.old places result labels.new }
+) -> Result<(Labelled, Infostop), Refusal>
+    requires { check_tracks xs.now ys.now times.now marks.now lens.now (length labels.old) places (length floats.old) (length words.old) ≡ Ok tt }
+    ensures { EndsFromTracks model.now xs.now ys.now times.now marks.now lens.now labels.old places result labels.new }
 {
     let n = labels.len();
-    let c = model.config;
     let end = 4 * n;
     let k = stay::all::all_stays(
         xs,
@@ -197,15 +174,12 @@ pub fn from_tracks(
         times,
         marks,
         lens,
-        c,
+        model.config,
         &mut floats[0..end],
         &mut words[0..n],
     );
     if k == 0 {
-        return Fit {
-            answer: Answer::Refused(Refusal::NoStop),
-            model: model,
-        };
+        return Err(Refusal::NoStop);
     }
     from_medians(model, k, places, floats, words, labels)
 }

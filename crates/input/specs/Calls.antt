@@ -1,11 +1,9 @@
 -- What calls of `read` give, one by one and together.
-use Rattle.std.specs.Prelude.{◌≡◌, ℕ, zero, suc, ◌≤◌, List, [], ◌∷◌, ◌++◌, ℤ, pos, negsuc, length, take}
-use Rattle.io.specs.Counts.{clamp_len}
+use Rattle.std.specs.Prelude.{◌≡◌, ℕ, zero, suc, ◌≤◌, List, [], ◌∷◌, ◌++◌, length, take, Option, Some, None, Err}
 use Rattle.settings.specs.declared.refusal.Refusal.TheVariants.{Text}
 use Rattle.text.specs.declared.Reader.{Reader}
-use Rattle.text.specs.declared.Parsed.{Parsed}
-use Rattle.text.specs.declared.Parsed.TheVariants.{Refused}
 use Rattle.text.specs.Values.{Columns}
+use Rattle.text.specs.Parsed.{Parsed}
 use Rattle.text.specs.Pieces.{Feeds, ReadAs}
 use Rattle.input.specs.declared.Next.{Next}
 use Rattle.input.specs.declared.Next.TheVariants.{More, End, Failed}
@@ -13,29 +11,30 @@ use Rattle.input.specs.declared.Piece.{Piece}
 
 -- ---- one call
 
--- what a call that is handed n bytes may answer: -1, or how many bytes it moved, at most n
-abbrev pub Moved : ℕ → ℤ → Type 0
-Moved n (pos k) = k ≤ n
-Moved n (negsuc k) = k ≡ 0
+-- What a call that is handed n bytes may answer: how many bytes it moved, at most n, or none where it failed.
+abbrev pub Moved : ℕ → Option ℕ → Type 0
+Moved n (Some k) = k ≤ n
+Moved n None = Unit {0}
 
--- What a call gave: its answer, which is -1 or at most the length of the buffer, and the buffer after it.
+-- What a call gave: its answer, which is at most the length of the buffer or that it failed, and the buffer after it.
 pub record Call : Type 0 where
-  pub count : ℤ
+  pub count : Option ℕ
   pub buffer : List ℕ
   pub could : Moved (length buffer) count
 
--- The bytes that it gave: the first of the buffer, as many as it answered, and none for -1.
-unfoldable pub given : ℤ → List ℕ → List ℕ
-given n buf = take (clamp_len n (length buf)) buf
+-- The bytes that it gave: the first of the buffer, as many as it answered, and none where it failed.
+unfoldable pub given : Option ℕ → List ℕ → List ℕ
+given (Some n) buf = take n buf
+given None buf = []
 
--- What it told: 0 is the end of the input, -1 a failure.
-unfoldable pub next_of : ℤ → Next
-next_of (pos zero) = End
-next_of (pos (suc n)) = More
-next_of (negsuc n) = Failed
+-- What it told: 0 bytes are the end of the input.
+unfoldable pub next_of : Option ℕ → Next
+next_of (Some zero) = End
+next_of (Some (suc n)) = More
+next_of None = Failed
 
 -- Of a call that answered n and left the buffer so: the reader r and the slices c became p and c'. All bytes given were read, and no other.
-pub record Taken (n : ℤ) (buf : List ℕ) (r : Reader) (c : Columns) (p : Piece) (c' : Columns) : Type 0 where
+pub record Taken (n : Option ℕ) (buf : List ℕ) (r : Reader) (c : Columns) (p : Piece) (c' : Columns) : Type 0 where
   pub read : Feeds (given n buf) r c p.reader c'
   pub next : p.next ≡ next_of n
 
@@ -67,4 +66,4 @@ heard (g ∷ gs) = let h = heard gs in heard_next (next_of g.count) (given g.cou
 -- From the slices c what was heard was read: a whole text as `ReadAs` says, and 22 where it is broken.
 abbrev pub ReadFrom : Heard → Columns → Parsed → Columns → Type 0
 ReadFrom (whole t) c p c' = ReadAs c t p c'
-ReadFrom broken c p c' = p ≡ Refused Text
+ReadFrom broken c p c' = p ≡ Err Text

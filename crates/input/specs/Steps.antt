@@ -1,19 +1,12 @@
 -- Serves the contracts of this crate's own functions; no public contract reaches it.
-use Rattle.std.specs.Prelude.{◌≡◌, Bool, true, false, List}
+use Rattle.std.specs.Prelude.{◌≡◌, List}
 use Rattle.text.specs.declared.Reader.{Reader}
-use Rattle.text.specs.declared.Parsed.{Parsed}
 use Rattle.text.specs.Values.{Columns}
+use Rattle.text.specs.Parsed.{Parsed}
 use Rattle.text.specs.Machine.{Fed}
-use Rattle.input.specs.declared.Next.{Next}
-use Rattle.input.specs.declared.Next.TheVariants.{More, End, Failed}
+use Rattle.input.specs.declared.Next.TheVariants.{End}
 use Rattle.input.specs.declared.Piece.{Piece}
 use Rattle.input.specs.Calls.{Call, Taken, Heard, whole, broken, heard, ReadFrom}
-
--- Whether to read on.
-unfoldable pub goes_on : Next → Bool
-goes_on More = true
-goes_on End = false
-goes_on Failed = false
 
 -- `Taken` of a call as a whole.
 abbrev pub Took : Call → Reader → Columns → Piece → Columns → Type 0

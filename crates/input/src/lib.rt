@@ -2,21 +2,20 @@
 // refused (22). No contract can name what a call gave, so it is said of each call by itself (`take_piece`, exactly) and of the calls together (`read_input`).
 #![tactic(auto)]
 
-ghost use Rattle.std.specs.Prelude.{◌≡◌, ◌≤◌, List, pos, negsuc, IfOk, MatchResult};
-ghost use Rattle.settings.specs.declared.refusal.Refusal.TheVariants.{Text};
-ghost use Rattle.text.specs.declared.Parsed.TheVariants.{Refused};
+ghost use Rattle.std.specs.Prelude.{◌≡◌, List};
+ghost use Rattle.std.specs.Result.{result_ok};
 ghost use Rattle.text.specs.Values.{columns};
 ghost use Rattle.input.specs.Calls.{Call, next_of, Taken, heard, ReadFrom};
-ghost use Rattle.input.specs.Steps.{goes_on, Took, Told, Ends};
+ghost use Rattle.input.specs.Steps.{Took, Told, Ends};
 
 use settings::refusal::Refusal;
 use std::io::Read;
-use text::{Parsed, Reader};
+use text::{Input, Reader};
 
 const STDERR_FILENO: i32 = 2;
 
 // What a call of `read` told: there may be more, the input has ended, or the call has failed.
-#[derive(Clone, Copy)]
+#[derive(Clone, Copy, Debug, PartialEq, Eq)]
 pub enum Next {
     More,
     End,
@@ -24,27 +23,27 @@ pub enum Next {
 }
 
 // What is read so far, and what the last call told.
-#[derive(Clone, Copy)]
+#[derive(Clone, Copy, Debug, PartialEq, Eq)]
 pub struct Piece {
     pub reader: Reader,
     pub next: Next,
 }
 
-fn next_of(got: isize) -> Next
+#[tactic(auto, unfolding(crate::specs::Calls::next_of))]
+fn next_of(got: Option<usize>) -> Next
     ensures { result ≡ next_of got }
 {
-    if got < 0 {
-        return Next::Failed;
+    match got {
+        Some(0) => Next::End,
+        Some(_) => Next::More,
+        None => Next::Failed,
     }
-    if 0 < got {
-        return Next::More;
-    }
-    Next::End
 }
 
-// Takes what a call of `read` gave: its answer `got`, and the buffer as the call left it.
+// Takes what a call of `read` gave: what it told, how many bytes or that it failed, and the buffer as the call left it.
+// Kept as it is: the columns are lent slices side by side, as a fit takes them.
 pub fn take_piece(
-    got: isize,
+    told: std::io::Result<usize>,
     buf: &[u8],
     r: Reader,
     xs: &mut [f64],
@@ -53,26 +52,15 @@ pub fn take_piece(
     marks: &mut [u8],
     lens: &mut [u32],
 ) -> Piece
-    ensures { Taken got buf.now r (columns xs.old ys.old times.old marks.old lens.old)
+    ensures { Taken (result_ok told) buf.now r (columns xs.old ys.old times.old marks.old lens.old)
         result (columns xs.new ys.new times.new marks.new lens.new) }
 {
-    let n = io::count(got, buf);
+    let got = told.ok();
+    let n = got.unwrap_or(0).min(buf.len());
     let q = text::feed(r, &buf[..n], xs, ys, times, marks, lens);
-    let next = next_of(got);
     Piece {
         reader: q,
-        next: next,
-    }
-}
-
-// What a call of `read` answered: how many bytes it gave, or -1 where it failed.
-fn answer_of(told: std::io::Result<usize>) -> isize
-    requires { IfOk told (λ n. n ≤ 65536) }
-    ensures { MatchResult told (λ n. result ≡ pos n) (λ _. result ≡ negsuc 0) }
-{
-    match told {
-        Ok(n) => n as isize,
-        Err(_) => -1,
+        next: next_of(got),
     }
 }
 
@@ -92,18 +80,7 @@ fn read_piece<R: Read>(
 {
     let mut buf = io::large_buffer();
     let told = stdin.read(&mut buf);
-    let got = answer_of(told);
-    take_piece(got, &buf, r, xs, ys, times, marks, lens)
-}
-
-fn goes_on(next: Next) -> bool
-    ensures { result ≡ goes_on next }
-{
-    match next {
-        Next::More => true,
-        Next::End => false,
-        Next::Failed => false,
-    }
+    take_piece(told, &buf, r, xs, ys, times, marks, lens)
 }
 
 // Reads until a call gives no more. An input that has not ended after 2^64 - 1 calls counts as failed.
@@ -120,15 +97,12 @@ fn read_pieces<R: Read>(
         gs result (columns xs.new ys.new times.new marks.new lens.new) }
 {
     let mut r = text::start();
-    let mut turns = u64::MAX;
-    while 0 < turns {
+    for _ in 0..u64::MAX {
         let p = read_piece(stdin, r, xs, ys, times, marks, lens);
-        let next = p.next;
-        if !goes_on(next) {
-            return p;
+        match p.next {
+            Next::More => r = p.reader,
+            Next::End | Next::Failed => return p,
         }
-        r = p.reader;
-        turns -= 1;
     }
     Piece {
         reader: r,
@@ -136,23 +110,16 @@ fn read_pieces<R: Read>(
     }
 }
 
-// Says on standard error that the input was not read to its end.
-fn refuse_unread() -> Parsed
-    ensures { result ≡ Refused Text }
-{
-    io::write_all(STDERR_FILENO, b"the input could not be read to its end\n");
-    Parsed::Refused(Refusal::Text)
-}
-
-// What was read, if the last call told that the input has ended.
-fn finish(p: Piece) -> Parsed
+// What was read, if the last call told that the input has ended; otherwise standard error says that the input was not read to its end.
+fn finish(p: Piece) -> Result<Input, Refusal>
     ensures { Ends p result }
 {
-    let next = p.next;
-    match next {
+    match p.next {
         Next::End => text::finish(p.reader),
-        Next::More => refuse_unread(),
-        Next::Failed => refuse_unread(),
+        Next::More | Next::Failed => {
+            io::write_all(STDERR_FILENO, b"the input could not be read to its end\n");
+            Err(Refusal::Text)
+        }
     }
 }
 
@@ -164,7 +131,7 @@ pub fn read_input<R: Read>(
     times: &mut [f64],
     marks: &mut [u8],
     lens: &mut [u32],
-) -> Parsed
+) -> Result<Input, Refusal>
     ensures { (gs : List Call) ×
         ReadFrom (heard gs) (columns xs.old ys.old times.old marks.old lens.old)
         result (columns xs.new ys.new times.new marks.new lens.new) }

@@ -1,39 +1,25 @@
 -- The rows of the table, and how the loops over them go on and end.
 use mathlib.Core.Path.{◌≡◌, refl, sym, ap, ◌∙◌}
-use mathlib.Core.Bool.{cond}
-use mathlib.Core.List.{List, [], ◌∷◌}
+use mathlib.Core.Bool.{true, false, cond}
+use mathlib.Core.List.{List, [], ◌∷◌, ◌++◌}
 use Prim.Native.Nat.{ℕ, zero, suc, ◌+◌, ◌-◌, ◌*◌, ◌<◌, ◌≤◌}
 use native.Mathlib.Nat.{add-zero, sub-zero, zero-sub, suc-sub-suc, add-sub_cancel_left, mul-le-mul_right}
 use native.Mathlib.Numerals.{add-one}
 use native.Mathlib.Omega.{arith}
 use lib.ListN.{length, get_or, take, drop, length-drop, drop_of_length-le}
-use lib.Seq.{drop-cons, drop-drop, ext_get_or, length-take-le, take-nil}
+use lib.Seq.{drop-cons, drop-drop, ext_get_or, length-take-le, take-nil, take_at}
 use lib.Ieee.{Float, nan, lt}
-use Rattle.float.specs.Binary64.{add64, zero64}
-use Rattle.map_state.specs.Network.{row_at, add_weights, strengths_from, strengths_of, total_from}
-use Rattle.map_state.specs.Steps.{Rows, Sized}
+use Rattle.float.specs.Binary64.{add64, mul64, zero64, two64}
+use Rattle.map_state.specs.Network.{Network, row_at, add_weights, strengths_from, strengths_of, total_from, total_weight, network}
+use Rattle.map_state.specs.Steps.{Rows}
 
 -- a row ends inside the table
 pub row_inside : (t : List Float) (m n u : ℕ) → Rows t m n → u < n → u * m + n ≤ length t
 row_inside t m n u r h = omega (arith, mul-le-mul_right {m = u + 1} {n = n} m (omega arith), r.wide, r.rows)
 
--- slices that keep their lengths stay fit
-pub sized_kept : {t : List Float} {m : ℕ} {s : List Float} {part first : List ℕ} {exit str : List Float} {part' first' : List ℕ} {exit' str' : List Float}
-    → Sized t m s part first exit str → length part' ≡ length part → length first' ≡ length first → length exit' ≡ length exit → length str' ≡ length str
-    → Sized t m s part' first' exit' str'
-sized_kept z a b c d = record {
-  few = rw a z.few;
-  wide = z.wide;
-  nodes = z.nodes ∙ sym a;
-  firsts = b ∙ z.firsts ∙ sym a;
-  exit = c ∙ z.exit ∙ sym a;
-  sums = d ∙ z.sums ∙ sym a;
-  rows = λ u h. rw a (z.rows u (rw a at h));
-}
-
 -- a row as the code lends it
-pub lent : (table : List Float) (s n : ℕ) → s + n ≤ length table → length (take (s + n - s) (drop s table)) ≡ n
-lent table s n h = rw (add-sub_cancel_left, length-take-le n (drop s table) (simp length-drop (omega arith)))
+pub row_length : (table : List Float) (s n : ℕ) → s + n ≤ length table → length (take (s + n - s) (drop s table)) ≡ n
+row_length table s n h = rw (add-sub_cancel_left, length-take-le n (drop s table) (simp length-drop (omega arith)))
 
 drop_take : (k n : ℕ) (l : List Float) → drop k (take n l) ≡ take (n - k) (drop k l)
 drop_take zero n l = rw sub-zero
@@ -49,13 +35,20 @@ row_above table m n u h =
     rw (e, f) (sym (drop_take (suc u) n (drop (u * m) table) ∙ ap (λ (l : List Float). take (n - suc u) l) (drop-drop (suc u) (u * m) table)))
 
 -- ---- the weights of a row
-pub weights_on : (a a' : Float) (row : List Float) (v : ℕ) → v < length row → a' ≡ cond (lt zero64 (get_or row v nan)) (add64 a (get_or row v nan)) a → add_weights a' (drop (v + 1) row) ≡ add_weights a (drop v row)
+weights_on : (a a' : Float) (row : List Float) (v : ℕ) → v < length row → a' ≡ cond (lt zero64 (get_or row v nan)) (add64 a (get_or row v nan)) a → add_weights a' (drop (v + 1) row) ≡ add_weights a (drop v row)
 unfolding add_weights
 weights_on a a' row v h e = rw (e, add-one v, drop-cons row v nan h)
 
-pub weights_end : (a : Float) (row : List Float) (v : ℕ) → length row ≤ v → a ≡ add_weights a (drop v row)
+-- What is left to add, added to the sum so far, is z: past a link, past another weight, and at the end.
+pub weights_yes : (a : Float) (row : List Float) (v : ℕ) {z : Float} → add_weights a (drop v row) ≡ z → v < length row → lt zero64 (get_or row v nan) ≡ true → add_weights (add64 a (get_or row v nan)) (drop (v + 1) row) ≡ z
+weights_yes a row v e h t = weights_on a _ row v h (rw t) ∙ e
+
+pub weights_no : (a : Float) (row : List Float) (v : ℕ) {z : Float} → add_weights a (drop v row) ≡ z → v < length row → lt zero64 (get_or row v nan) ≡ false → add_weights a (drop (v + 1) row) ≡ z
+weights_no a row v e h t = weights_on a _ row v h (rw t) ∙ e
+
+pub weights_end : (a : Float) (row : List Float) (v : ℕ) {z : Float} → add_weights a (drop v row) ≡ z → length row ≤ v → a ≡ z
 unfolding add_weights
-weights_end a row v h = rw (drop_of_length-le row {i = v} h)
+weights_end a row v e h = rw (drop_of_length-le row {i = v} h) at e
 
 -- ---- the strengths
 module _ (t : List Float) (m n : ℕ) where
@@ -92,3 +85,13 @@ module _ (t : List Float) (m n : ℕ) where
   total_end a u h =
       let o : n - u ≡ 0 = omega arith in
       rw o
+
+  -- ---- the network, from the strengths in the first n places of an array
+  pub network_is : (k : ℕ) (s rest : List Float) {w : Float} → k ≡ n → length s ≡ k → s ≡ strengths_of t m k → w ≡ total_weight t m n
+      → ◌≡◌ {A = Network} (record { table = t; stride = m; strength = take n (s ++ rest); d = mul64 two64 w }) (network t m n)
+  unfolding network
+  network_is k s rest p l e q = rw (take_at s rest n (l ∙ p), q, ← p) (rw (← e))
+
+  pub length_network : length (network t m n).strength ≡ n
+  unfolding network
+  length_network = length_strengths

@@ -1,19 +1,16 @@
-// The map state of the grouping run: what it carries, the change of codelength by a move, and the move.
-//
-// The network is a table of weights with a stride, the nodes' `strength`, and `d`, which is D. A state stands in slices of one
-// element a node: `partition`, the internal number of the node's group; `first`, the lowest member of that group; `exits` and
-// `strengths`, a group's sums, at its lowest member.
+// The map state of the grouping run: the network, what a run carries, the change of codelength by a move, and the move.
+// Kept as it is: arrays of fixed size, of which a part is lent, since the project's memory is fixed and it takes no heap.
 #![tactic(auto)]
 
-ghost use Rattle.std.specs.Prelude.{◌≡◌, ◌+◌, ◌-◌, ◌*◌, ◌<◌, ◌≤◌, cond, length, get_or, set, Float};
-ghost use Rattle.std.specs.Float.Ieee.{lt};
-ghost use Rattle.float.specs.Binary64.{add64, zero64};
-ghost use Rattle.map_state.specs.Network.{add_weights, strengths_of, total_weight};
-ghost use Rattle.map_state.specs.MapState.{add_link, link_weights, lowest, count, after_move, module_terms, module_pair_delta, stats_at, sum_q, moved_from, delta_from};
-ghost use Rattle.map_state.specs.Steps.{net_of, state_of, Firsts, Rows, Rowed, first_after, Summed, AtNode, Renewed, MoveSums, MovedTo};
+ghost use Rattle.std.specs.Prelude.{◌≡◌, ◌+◌, ◌-◌, ◌*◌, ◌<◌, ◌≤◌, ◌==◌, length, get_or, position};
+ghost use Rattle.map_state.specs.Network.{row, add_weights, strengths_of, total_weight, network};
+ghost use Rattle.map_state.specs.MapState.{add_link, link_weights, lowest, count, after_move, module_terms, module_pair_delta, stats_of, sum_q, moved_from, delta_move, apply_move};
+ghost use Rattle.map_state.specs.Steps.{Rows, Firsts, Room, StoredAt, Even, AtNode, Renewed, MoveSums};
+
+use std::marker::Model;
 
 // The weights from a node into its own group, into another, and elsewhere.
-#[derive(Clone, Copy)]
+#[derive(Clone, Copy, Debug, PartialEq)]
 pub struct Links {
     pub src: f64,
     pub dest: f64,
@@ -21,7 +18,7 @@ pub struct Links {
 }
 
 // A group's exit weight, its strength and the number of its nodes.
-#[derive(Clone, Copy)]
+#[derive(Clone, Copy, Debug, PartialEq)]
 pub struct ModuleStats {
     pub exit: f64,
     pub strength: f64,
@@ -29,93 +26,81 @@ pub struct ModuleStats {
 }
 
 // The two groups after a move, and the sum of the changes of their exit weights.
-#[derive(Clone, Copy)]
+#[derive(Clone, Copy, Debug, PartialEq)]
 pub struct Moved {
     pub src: ModuleStats,
     pub dest: ModuleStats,
     pub delta_exit: f64,
 }
 
-fn add_weight(a: f64, w: f64) -> f64
-    ensures { result ≡ cond (lt zero64 w) (add64 a w) a }
-{
-    if 0.0 < w {
-        return a + w;
-    }
-    a
-}
-
 // The weights of the links in a row, or in a part of it, added to `start`.
+#[tactic(auto, using(crate::proofs::Rows::weights_yes, crate::proofs::Rows::weights_no, crate::proofs::Rows::weights_end))]
 fn add_weights(row: &[f64], start: f64) -> f64
     ensures { result ≡ add_weights start row.now }
 {
     let mut a = start;
-    let mut v = 0;
-    while v < row.len() {
-        a = add_weight(a, row[v]);
-        v += 1;
+    for &w in row {
+        if 0.0 < w {
+            a += w;
+        }
     }
     a
 }
 
 // Writes the strengths of the nodes, as many as the slice is long.
-pub fn sum_strengths(table: &[f64], stride: usize, strength: &mut [f64])
+#[tactic(auto, using(crate::proofs::Rows::row_inside))]
+fn sum_strengths(table: &[f64], stride: usize, strength: &mut [f64])
     requires { Rows table.now stride (length strength.old) }
     ensures { strength.new ≡ strengths_of table.now stride (length strength.old) }
 {
     let n = strength.len();
-    let mut u = 0;
-    while u < n {
+    for u in 0..n {
         let a = u * stride;
-        let e = a + n;
-        strength[u] = add_weights(&table[a..e], 0.0);
-        u += 1;
+        strength[u] = add_weights(&table[a..a + n], 0.0);
     }
 }
 
 // The total weight of n nodes' links, each counted once.
-pub fn total_weight(table: &[f64], stride: usize, n: usize) -> f64
+#[tactic(auto, using(crate::proofs::Rows::row_inside))]
+fn total_weight(table: &[f64], stride: usize, n: usize) -> f64
     requires { Rows table.now stride n }
     ensures { result ≡ total_weight table.now stride n }
 {
     let mut t = 0.0;
-    let mut u = 0;
-    while u < n {
-        let a = u * stride + u + 1;
-        let e = u * stride + n;
-        t = add_weights(&table[a..e], t);
-        u += 1;
+    for u in 0..n {
+        let a = u * stride;
+        t = add_weights(&table[a + u + 1..a + n], t);
     }
     t
 }
 
+#[tactic(auto, unfolding(crate::specs::MapState::add_link))]
 fn add_link(l: Links, g: u32, h: u32, p: u32, w: f64) -> Links
     ensures { result ≡ add_link g h l p w }
 {
     if 0.0 < w {
         if p == g {
-            return Links {
+            Links {
                 src: l.src + w,
-                dest: l.dest,
-                other: l.other,
-            };
-        }
-        if p == h {
-            return Links {
-                src: l.src,
+                ..l
+            }
+        } else if p == h {
+            Links {
                 dest: l.dest + w,
-                other: l.other,
-            };
+                ..l
+            }
+        } else {
+            Links {
+                other: l.other + w,
+                ..l
+            }
         }
-        return Links {
-            src: l.src,
-            dest: l.dest,
-            other: l.other + w,
-        };
+    } else {
+        l
     }
-    l
 }
 
+#[tactic(auto, using(crate::proofs::Loops::link_on, crate::proofs::Loops::link_end))]
 fn link_weights(partition: &[u32], row: &[f64], g: u32, h: u32) -> Links
     requires { length row.now ≡ length partition.now }
     ensures { result ≡ link_weights g h partition.now row.now }
@@ -125,44 +110,29 @@ fn link_weights(partition: &[u32], row: &[f64], g: u32, h: u32) -> Links
         dest: 0.0,
         other: 0.0,
     };
-    let mut v = 0;
-    while v < partition.len() {
+    for v in 0..partition.len() {
         l = add_link(l, g, h, partition[v], row[v]);
-        v += 1;
     }
     l
 }
 
-// The lowest member of a group, or the number of nodes.
-pub fn lowest(partition: &[u32], g: u32) -> usize
-    ensures { result ≡ lowest g partition.now }
+// The lowest member of a group that has one.
+pub fn lowest(partition: &[u32], g: u32) -> Option<usize>
+    ensures { result ≡ position (λ p. p == g) partition.now }
 {
-    let mut v = 0;
-    while v < partition.len() {
-        if partition[v] == g {
-            return v;
-        }
-        v += 1;
-    }
-    v
+    partition.iter().position(|&p| p == g)
 }
 
 // The number of a group's members.
+#[tactic(auto, using(crate::proofs::Chains::count_is))]
 fn members(partition: &[u32], g: u32) -> u32
     requires { length partition.now ≤ 512 }
     ensures { result ≡ count g partition.now }
 {
-    let mut n: u32 = 0;
-    let mut v = 0;
-    while v < partition.len() {
-        if partition[v] == g {
-            n += 1;
-        }
-        v += 1;
-    }
-    n
+    partition.iter().filter(|p| **p == g).count() as u32
 }
 
+#[tactic(auto, unfolding(crate::specs::MapState::after_move))]
 fn after_move(l: Links, s: f64, src: ModuleStats, dest: ModuleStats) -> Moved
     requires { (0 < src.n_nodes) × (dest.n_nodes ≤ 512) }
     ensures { result ≡ after_move l s src dest }
@@ -184,6 +154,7 @@ fn after_move(l: Links, s: f64, src: ModuleStats, dest: ModuleStats) -> Moved
     }
 }
 
+#[tactic(auto, unfolding(crate::specs::MapState::module_terms))]
 fn module_terms(d: f64, m: ModuleStats) -> f64
     ensures { result ≡ module_terms d m }
 {
@@ -195,193 +166,273 @@ fn module_terms(d: f64, m: ModuleStats) -> f64
     -2.0 * float::plogp(q) + float::plogp(p + q)
 }
 
+#[tactic(auto, unfolding(crate::specs::MapState::module_pair_delta))]
 fn module_pair_delta_l(d: f64, q: f64, src: ModuleStats, dest: ModuleStats, m: Moved) -> f64
     ensures { result ≡ module_pair_delta d q src dest m }
 {
-    let src2 = m.src;
-    let dest2 = m.dest;
     let before = float::plogp(q) + module_terms(d, src) + module_terms(d, dest);
-    let after = float::plogp(q + m.delta_exit / d) + module_terms(d, src2) + module_terms(d, dest2);
+    let after = float::plogp(q + m.delta_exit / d)
+        + module_terms(d, m.src)
+        + module_terms(d, m.dest);
     after - before
 }
 
-// A group's sums, from the place where they stand.
-fn stats_at(partition: &[u32], exits: &[f64], strengths: &[f64], slot: usize, g: u32) -> ModuleStats
-    requires { (Summed partition.now exits.now strengths.now) × (slot < length partition.now) × (slot ≡ lowest g partition.now) }
-    ensures { result ≡ stats_at partition.now exits.now strengths.now g }
+// Gives each member of group g the number `a`.
+fn renew_first(partition: &[u32], first: &mut [u32], g: u32, a: u32)
+    requires { length partition.now ≤ length first.old }
+    ensures { Renewed partition.now first.old first.new g a }
 {
-    ModuleStats {
-        exit: exits[slot],
-        strength: strengths[slot],
-        n_nodes: members(partition, g),
+    for v in 0..partition.len() {
+        if partition[v] == g {
+            first[v] = a;
+        }
     }
 }
 
-// The sums of a node's own group.
-pub fn own_stats(
+// Stores a group's sums at its lowest member, and gives it to the members; an empty group's are forgotten.
+// Kept as it is: a function over the arrays, since it runs while the lowest members are stale, where no method of the state may be called.
+fn store_group(
     partition: &[u32],
-    first: &[u32],
-    exits: &[f64],
-    strengths: &[f64],
-    v: usize,
-) -> ModuleStats
-    requires { (Summed partition.now exits.now strengths.now) × (length first.now ≡ length partition.now)
-        × (v < length partition.now) × (Firsts partition.now first.now) }
-    ensures { result ≡ stats_at partition.now exits.now strengths.now (get_or partition.now v 0) }
-{
-    stats_at(
-        partition,
-        exits,
-        strengths,
-        lists::wide(first[v]),
-        partition[v],
-    )
-}
-
-// A group's sums, wherever they stand; an empty group's are 0.
-pub fn find_stats(partition: &[u32], exits: &[f64], strengths: &[f64], g: u32) -> ModuleStats
-    requires { Summed partition.now exits.now strengths.now }
-    ensures { result ≡ stats_at partition.now exits.now strengths.now g }
-{
-    let a = lowest(partition, g);
-    if a < partition.len() {
-        return stats_at(partition, exits, strengths, a, g);
-    }
-    ModuleStats {
-        exit: 0.0,
-        strength: 0.0,
-        n_nodes: 0,
-    }
-}
-
-fn add_if(lead: bool, a: f64, x: f64) -> f64
-    ensures { result ≡ cond lead (add64 a x) a }
-{
-    if lead {
-        return a + x;
-    }
-    a
-}
-
-// Q, by lowest member.
-pub fn sum_q(partition: &[u32], first: &[u32], exits: &[f64], d: f64) -> f64
-    requires { (length first.now ≡ length partition.now) × (length exits.now ≡ length partition.now) × Firsts partition.now first.now }
-    ensures { result ≡ sum_q d partition.now exits.now }
-{
-    let mut a = 0.0;
-    let mut v = 0;
-    while v < partition.len() {
-        a = add_if(lists::wide(first[v]) == v, a, exits[v] / d);
-        v += 1;
-    }
-    a
-}
-
-// What a move of u to h makes of the two groups, `src` and `dest` before it.
-fn move_of(
-    table: &[f64],
-    stride: usize,
-    strength: &[f64],
-    partition: &[u32],
-    u: usize,
-    h: u32,
-    src: ModuleStats,
-    dest: ModuleStats,
-) -> Moved
-    requires { (Rowed table.now stride strength.now partition.now u) × (0 < src.n_nodes) × (dest.n_nodes ≤ 512) }
-    ensures { (d : Float) → result ≡ moved_from (net_of table.now stride strength.now d) partition.now u h src dest }
-{
-    let a = u * stride;
-    let e = a + partition.len();
-    let l = link_weights(partition, &table[a..e], partition[u], h);
-    after_move(l, strength[u], src, dest)
-}
-
-// The change of codelength if u moves to h; its group is `src` and h is `dest` before it.
-pub fn delta_move(
-    table: &[f64],
-    stride: usize,
-    strength: &[f64],
-    d: f64,
-    partition: &[u32],
-    q: f64,
-    u: usize,
-    h: u32,
-    src: ModuleStats,
-    dest: ModuleStats,
-) -> f64
-    requires { (Rowed table.now stride strength.now partition.now u) × (0 < src.n_nodes) × (dest.n_nodes ≤ 512) }
-    ensures { result ≡ delta_from (net_of table.now stride strength.now d) partition.now q u h src dest }
-{
-    let mv = move_of(table, stride, strength, partition, u, h, src, dest);
-    module_pair_delta_l(d, q, src, dest, mv)
-}
-
-// Sets an element; nothing past the end.
-fn store(xs: &mut [f64], v: usize, x: f64)
-    ensures { xs.new ≡ set xs.old v x }
-{
-    if v < xs.len() {
-        xs[v] = x;
-    }
-}
-
-fn first_after(x: u32, g: u32, a: u32, h: u32, b: u32, f: u32) -> u32
-    ensures { result ≡ first_after x g a h b f }
-{
-    if x == g {
-        return a;
-    }
-    if x == h {
-        return b;
-    }
-    f
-}
-
-// Gives the members of the groups g and h their lowest members anew.
-fn renew_first(partition: &[u32], first: &mut [u32], g: u32, a: u32, h: u32, b: u32)
-    requires { length first.old ≡ length partition.now }
-    ensures { Renewed partition.now first.old first.new g a h b }
-{
-    let mut v = 0;
-    while v < partition.len() {
-        first[v] = first_after(partition[v], g, a, h, b, first[v]);
-        v += 1;
-    }
-}
-
-// Moves u to h, and gives Q anew; its group is `src` and h is `dest` before it.
-pub fn apply_move(
-    table: &[f64],
-    stride: usize,
-    strength: &[f64],
-    d: f64,
-    partition: &mut [u32],
     first: &mut [u32],
     exits: &mut [f64],
     strengths: &mut [f64],
-    u: usize,
-    h: u32,
-    src: ModuleStats,
-    dest: ModuleStats,
-) -> f64
-    requires { (AtNode table.now stride strength.now partition.old first.old exits.old strengths.old u)
-        × (MoveSums partition.old exits.old strengths.old u h src dest) }
-    ensures { (MovedTo (net_of table.now stride strength.now d) partition.old exits.old strengths.old u h
-        (state_of partition.new exits.new strengths.new result))
-        × Firsts partition.new first.new }
+    g: u32,
+    m: ModuleStats,
+)
+    requires { Room partition.now first.old exits.old strengths.old }
+    ensures { (StoredAt partition.now exits.old exits.new g m.exit)
+        × (StoredAt partition.now strengths.old strengths.new g m.strength)
+        × (Renewed partition.now first.old first.new g (lowest g partition.now)) }
 {
-    let g = partition[u];
-    let mv = move_of(table, stride, strength, partition, u, h, src, dest);
-    let src2 = mv.src;
-    let dest2 = mv.dest;
-    partition[u] = h;
-    let a = lowest(partition, g);
-    let b = lowest(partition, h);
-    renew_first(partition, first, g, a as u32, h, b as u32);
-    store(exits, a, src2.exit);
-    store(exits, b, dest2.exit);
-    store(strengths, a, src2.strength);
-    store(strengths, b, dest2.strength);
-    sum_q(partition, first, exits, d)
+    if let Some(a) = lowest(partition, g) {
+        renew_first(partition, first, g, a as u32);
+        exits[a] = m.exit;
+        strengths[a] = m.strength;
+    }
+}
+
+// The nodes, at most 512, with their links and strengths. The table holds the weights, row after row at a stride; `d` is D.
+#[derive(Drop)]
+pub struct Network<'a> {
+    table: &'a [f64],
+    stride: usize,
+    n: usize,
+    strength: [f64; 512],
+    d: f64,
+}
+
+impl<'a> Model for Network<'a> {
+    ghost use Rattle.std.specs.Prelude.{take};
+    ghost use Rattle.map_state.specs.Network.{Network};
+
+    ghost Value = { Network };
+
+    ghost use Rattle.map_state.specs.Steps.{Rows};
+
+    ghost view = { λ a. record { table = a.table.now; stride = a.stride; strength = take a.n a.strength; d = a.d } };
+
+    ghost invariant = { λ a. Rows a.table.now a.stride a.n };
+}
+
+impl<'a> Network<'a> {
+    // The network of n nodes whose weights stand in the table.
+    pub fn new(table: &'a [f64], stride: usize, n: usize) -> Self
+        requires { Rows table.now stride n }
+        ensures { result ≡ network table.now stride n }
+    {
+        let mut strength = [0.0; 512];
+        sum_strengths(table, stride, &mut strength[..n]);
+        let d = 2.0 * total_weight(table, stride, n);
+        Network {
+            table,
+            stride,
+            n,
+            strength,
+            d,
+        }
+    }
+
+    pub fn d(&self) -> f64
+        ensures { result ≡ self.now.d }
+    {
+        self.d
+    }
+
+    pub fn strength(&self) -> &[f64]
+        ensures { (result.now ≡ self.now.strength) × (length result.now ≤ 512) }
+    {
+        &self.strength[..self.n]
+    }
+
+    // The weights between node u and each node.
+    pub fn row(&self, u: usize) -> &[f64]
+        requires { u < length self.now.strength }
+        ensures { (result.now ≡ row self.now u) × (length result.now ≡ length self.now.strength) }
+    {
+        let a = u * self.stride;
+        &self.table[a..a + self.n]
+    }
+}
+
+// What the run carries, one element a node: `partition`, the internal number of the node's group; `first`, the lowest member of that
+// group; `exits` and `strengths`, a group's sums, at its lowest member. `q` is Q.
+// Kept as it is: arrays side by side and of fixed size, since the library takes no heap and the definitions have a list of each.
+#[derive(Drop)]
+pub struct MapState {
+    pub n: usize,
+    pub partition: [u32; 512],
+    pub first: [u32; 512],
+    pub exits: [f64; 512],
+    pub strengths: [f64; 512],
+    pub q: f64,
+}
+
+impl Model for MapState {
+    ghost use Rattle.std.specs.Prelude.{take, ◌≤◌};
+    ghost use Rattle.map_state.specs.MapState.{MapState};
+
+    ghost Value = { MapState };
+
+    ghost use Rattle.map_state.specs.Steps.{Firsts};
+
+    ghost view = { λ a. record { partition = take a.n a.partition; exits = take a.n a.exits; strengths = take a.n a.strengths; q_sum = a.q } };
+
+    ghost invariant = { λ a. (a.n ≤ 512) × Firsts (take a.n a.partition) a.first };
+}
+
+impl MapState {
+    // Each node's group.
+    pub fn partition(&self) -> &[u32]
+        ensures { (result.now ≡ self.now.partition) × Even self.now }
+    {
+        &self.partition[..self.n]
+    }
+
+    // The lowest member of each node's group.
+    pub fn first(&self) -> &[u32]
+        ensures { (length result.now ≡ length self.now.partition) × Firsts self.now.partition result.now }
+    {
+        &self.first[..self.n]
+    }
+
+    // The exit weights of the groups, each at the group's lowest member.
+    pub fn exits(&self) -> &[f64]
+        ensures { (result.now ≡ self.now.exits) × (length result.now ≡ length self.now.partition) }
+    {
+        &self.exits[..self.n]
+    }
+
+    // The strengths of the groups, likewise.
+    pub fn strengths(&self) -> &[f64]
+        ensures { (result.now ≡ self.now.strengths) × (length result.now ≡ length self.now.partition) }
+    {
+        &self.strengths[..self.n]
+    }
+
+    // A group's sums, from the place where they stand.
+    fn stats_at(&self, slot: usize, g: u32) -> ModuleStats
+        requires { (slot < length self.now.partition) × (slot ≡ lowest g self.now.partition) }
+        ensures { result ≡ stats_of self.now g }
+    {
+        ModuleStats {
+            n_nodes: members(self.partition(), g),
+            exit: self.exits()[slot],
+            strength: self.strengths()[slot],
+        }
+    }
+
+    // The sums of a node's own group.
+    pub fn own_stats(&self, v: usize) -> ModuleStats
+        requires { v < length self.now.partition }
+        ensures { result ≡ stats_of self.now (get_or self.now.partition v 0) }
+    {
+        let g = self.partition()[v];
+        self.stats_at(self.first()[v] as usize, g)
+    }
+
+    // A group's sums, wherever they stand; an empty group's are 0.
+    pub fn find_stats(&self, g: u32) -> ModuleStats
+        ensures { result ≡ stats_of self.now g }
+    {
+        match lowest(self.partition(), g) {
+            Some(a) => self.stats_at(a, g),
+            None => ModuleStats {
+                exit: 0.0,
+                strength: 0.0,
+                n_nodes: 0,
+            },
+        }
+    }
+
+    // Q, by lowest member.
+    #[tactic(auto, using(crate::proofs::Leaders::q_yes, crate::proofs::Leaders::q_no))]
+    pub fn sum_q(&self, d: f64) -> f64
+        ensures { result ≡ sum_q d self.now.partition self.now.exits }
+    {
+        let first = self.first();
+        let exits = self.exits();
+        let mut a = 0.0;
+        for v in 0..first.len() {
+            if first[v] as usize == v {
+                a += exits[v] / d;
+            }
+        }
+        a
+    }
+
+    // What a move of u to h makes of the two groups, `src` and `dest` before it.
+    fn move_of(&self, net: &Network, u: usize, h: u32, src: ModuleStats, dest: ModuleStats) -> Moved
+        requires { (AtNode net.now self.now u) × (MoveSums self.now u h src dest) }
+        ensures { result ≡ moved_from net.now self.now.partition u h src dest }
+    {
+        let partition = self.partition();
+        let l = link_weights(partition, net.row(u), partition[u], h);
+        after_move(l, net.strength()[u], src, dest)
+    }
+
+    // The change of codelength if u moves to h; its group is `src` and h is `dest` before it.
+    pub fn delta_move(
+        &self,
+        net: &Network,
+        u: usize,
+        h: u32,
+        src: ModuleStats,
+        dest: ModuleStats,
+    ) -> f64
+        requires { (AtNode net.now self.now u) × (MoveSums self.now u h src dest) }
+        ensures { result ≡ delta_move net.now self.now u h }
+    {
+        let mv = self.move_of(net, u, h, src, dest);
+        module_pair_delta_l(net.d(), self.q, src, dest, mv)
+    }
+
+    // Moves u to h, another group, and makes Q anew.
+    pub fn apply_move(&mut self, net: &Network, u: usize, h: u32)
+        requires { AtNode net.now self.old u }
+        ensures { self.new ≡ apply_move net.now self.old u h }
+    {
+        let g = self.partition()[u];
+        let src = self.own_stats(u);
+        let dest = self.find_stats(h);
+        let mv = self.move_of(net, u, h, src, dest);
+        self.partition[u] = h;
+        let partition = &self.partition[..self.n];
+        store_group(
+            partition,
+            &mut self.first,
+            &mut self.exits,
+            &mut self.strengths,
+            g,
+            mv.src,
+        );
+        store_group(
+            partition,
+            &mut self.first,
+            &mut self.exits,
+            &mut self.strengths,
+            h,
+            mv.dest,
+        );
+        self.q = self.sum_q(net.d());
+    }
 }

@@ -28,23 +28,22 @@ module _ (n : ℕ) (ns : List ℕ) (r : RowNumbers n ns) where
   pub in_target : (u v : ℕ) → u < k → v < k → u * k + v < n * n
   in_target u v p q = let a = read_later u v p q in let b = in_source u v p q in omega arith
 
-  -- The cell (i, j) = (ns u, ns v) that the code reads, and the one that it writes.
-  module _ (u v : ℕ) {i j : ℕ} (p : u < k) (q : v < k) (x : i ≡ get_or ns u 0) (y : j ≡ get_or ns v 0) where
-    pub source_in : i * n + j < n * n
-    source_in = rw (x, y) (in_source u v p q)
-
-    pub source_few : n ≤ 512 → i * n + j < 262144
-    source_few h = rw (x, y) (few_cells n (get_or ns u 0) (get_or ns v 0) h (r.below u p) (r.below v q))
+  -- The cell that the code reads, and the one that it writes.
+  module _ (u v : ℕ) (p : u < k) (q : v < k) where
+    pub source_few : n ≤ 512 → get_or ns u 0 * n + get_or ns v 0 < 262144
+    source_few h = few_cells n (get_or ns u 0) (get_or ns v 0) h (r.below u p) (r.below v q)
 
     pub target_few : n ≤ 512 → u * k + v < 262144
-    target_few h = let a = read_later u v p q in let b = few_cells n (get_or ns u 0) (get_or ns v 0) h (r.below u p) (r.below v q) in omega arith
+    target_few h = let a = read_later u v p q in let b = source_few h in omega arith
 
     pub compact_on : (t s : List Float) → Compacted n ns t s (u * k + v) → n * n ≤ length s
-        → Compacted n ns t (set s (u * k + v) (get_or s (i * n + j) nan)) (u * k + (v + 1))
-    compact_on t s c l = record {
-      moved = tabled_on _ k s u v c.moved q (let b = in_target u v p q in omega arith) (rw (x, y) (c.rest (get_or ns u 0 * n + get_or ns v 0) (read_later u v p q)));
-      rest = λ w h. get_or-set_other s (u * k + v) w (get_or s (i * n + j) nan) nan (λ e. omega arith) ∙ c.rest w (omega arith);
-    }
+        → Compacted n ns t (set s (u * k + v) (get_or s (get_or ns u 0 * n + get_or ns v 0) nan)) (u * k + (v + 1))
+    compact_on t s c l =
+        let w : Float = get_or s (get_or ns u 0 * n + get_or ns v 0) nan in
+        record {
+          moved = tabled_on _ k s u v c.moved q (let b = in_target u v p q in omega arith) (c.rest (get_or ns u 0 * n + get_or ns v 0) (read_later u v p q));
+          rest = λ i h. get_or-set_other s (u * k + v) i w nan (λ e. omega arith) ∙ c.rest i (omega arith);
+        }
 
 pub compact_none : (n : ℕ) (ns : List ℕ) (t : List Float) → Compacted n ns t t (0 * length ns)
 compact_none n ns t = record { moved = tabled_none _ (length ns) t; rest = λ i h. refl }

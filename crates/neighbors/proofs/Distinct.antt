@@ -4,18 +4,17 @@ use mathlib.Core.List.{List, [], ◌∷◌}
 use Prim.Native.Nat.{ℕ, suc, ◌+◌, ◌<◌, ◌≤◌}
 use native.Mathlib.Numerals.{add-one}
 use native.Mathlib.Omega.{arith}
-use borrow.Author.Tests.{lt-leb, le-leb}
 use lib.ListN.{length, get_or, drop, drop_of_length-le}
 use lib.Seq.{drop-cons}
 use lib.Ieee.{Float, nan}
 use Rattle.lists.specs.Lists.{overlay}
+use Rattle.std.specs.Prelude.{Option, Some, None}
 use Rattle.distance.specs.declared.Point.{Point}
 use Rattle.neighbors.specs.Places.{Place, sighted, sighted_all, places, places_in, place_xs, place_ys}
 use Rattle.distance.specs.Distance.{points}
-use Rattle.neighbors.specs.StepsPlaces.{stay_count, sighted_within, places_within, place_counts, front, distinct_within, Laid, OneMoreLaid, DistinctLaid}
-use Rattle.neighbors.specs.declared.places.PlaceCount.TheVariants.{Places, TooMany}
+use Rattle.neighbors.specs.StepsPlaces.{stay_count, sighted_within, places_within, place_counts, front, Laid, OneMoreLaid, DistinctLaid}
 use Rattle.neighbors.proofs.Sighted.{longer, longer_all, counted_one}
-use Rattle.neighbors.proofs.Within.{within_on, within_stop}
+use Rattle.neighbors.proofs.Within.{within_on, within_stop, counted_within, counted_beyond, within_some, within_none}
 use Rattle.neighbors.proofs.Laid.{length_front, front_laid, laid_over, laid_as}
 
 -- n places of the first k medians stand in front, and behind them what was there.
@@ -57,48 +56,51 @@ module _ (mx my xs₀ ys₀ : List Float) (cs₀ : List ℕ) where
     step_within = ap (sighted_within (length xs₀) before) (sym first) ∙ at.within
 
     -- What `sight` gave.
-    module _ (xs' ys' : List Float) (cs' : List ℕ) (r : ℕ) (e : OneMoreLaid xs ys cs n m r xs' ys' cs') where
+    module _ (xs' ys' : List Float) (cs' : List ℕ) {o : Option ℕ} (e : OneMoreLaid xs ys cs n m o xs' ys' cs') where
       laid_now : (qs : List Place) → sighted_within (length xs) before (m ∷ []) ≡ qs → length before ≤ length qs → Laid qs xs₀ ys₀ cs₀ xs' ys' cs'
       laid_now qs a b =
           laid_over xs ys cs xs' ys' cs' before qs xs₀ ys₀ cs₀ at.laid b
           (laid_as xs ys cs xs' ys' cs' (sighted_within (length xs) before (m ∷ [])) qs a e.1)
 
-      pub distinct_on : r ≤ length xs → Reached mx my xs₀ ys₀ cs₀ xs' ys' cs' r (k + 1)
-      distinct_on q = record {
+      pub distinct_on : (r : ℕ) → o ≡ Some r → Reached mx my xs₀ ys₀ cs₀ xs' ys' cs' r (k + 1)
+      distinct_on r d = record {
         rest = ap (λ (z : List Place). sighted_all z left) f ∙ step;
-        within = ap (λ (z : List Place). sighted_within (length xs₀) z left) f ∙ sym (within_on (length xs₀) before m left (omega (arith, e.0))) ∙ step_within;
+        within = ap (λ (z : List Place). sighted_within (length xs₀) z left) f ∙ sym (within_on (length xs₀) before m left (omega (arith, many))) ∙ step_within;
         laid = laid_as xs₀ ys₀ cs₀ xs' ys' cs' next (front xs' ys' cs' r) (sym f) t;
-        few = omega arith;
+        few = omega (arith, many);
         counted = ap stay_count f ∙ counted_one before m ∙ ap suc at.counted ∙ sym (add-one k);
       }
         where
+          many : (r ≡ length next) × (r ≤ length xs)
+          many = within_some (length xs) next r (sym d ∙ e.0)
+
           w : sighted_within (length xs) before (m ∷ []) ≡ next
-          w = unfold sighted_within in within_on (length xs) before m [] (omega (arith, e.0))
+          w = unfold sighted_within in within_on (length xs) before m [] (omega (arith, many))
 
           t : Laid next xs₀ ys₀ cs₀ xs' ys' cs'
           t = laid_now next w (longer before m)
 
           f : front xs' ys' cs' r ≡ next
-          f = front_laid xs₀ ys₀ cs₀ xs' ys' cs' next r e.0 t
+          f = front_laid xs₀ ys₀ cs₀ xs' ys' cs' next r many.0 t
 
-      pub distinct_full : length xs < r → DistinctLaid mx my xs₀ ys₀ cs₀ TooMany xs' ys' cs'
-      distinct_full q =
-          let stop = sym (within_stop (length xs₀) before m left (omega (arith, e.0))) ∙ step_within in
-          let laid = laid_now before (within_stop (length xs) before m [] (omega (arith, e.0))) (omega arith) in
+      pub distinct_full : o ≡ None → {z : Option ℕ} → z ≡ None → DistinctLaid mx my xs₀ ys₀ cs₀ z xs' ys' cs'
+      distinct_full d g =
+          let stop = sym (within_stop (length xs₀) before m left (omega (arith, many))) ∙ step_within in
+          let laid = laid_now before (within_stop (length xs) before m [] many) (omega arith) in
           let end = laid_as xs₀ ys₀ cs₀ xs' ys' cs' before (places_within (length xs₀) (points mx my)) stop laid in
-          (many, end.0, end.1, end.2)
+          (g ∙ counted_beyond (length xs₀) (places (points mx my)) over, end.0, end.1, end.2)
         where
-          over : length xs₀ < length (places (points mx my))
-          over = rw step at (let a = longer_all next left in let z : length xs₀ < length (sighted_all next left) = omega (arith, e.0) in z)
+          many : length xs < length next
+          many = within_none (length xs) next (sym d ∙ e.0)
 
-          many : TooMany ≡ distinct_within (length xs₀) (places (points mx my))
-          many = unfold distinct_within in rw (lt-leb (length (places (points mx my))) (length xs₀) over)
+          over : length xs₀ < length (places (points mx my))
+          over = rw step at (let a = longer_all next left in let z : length xs₀ < length (sighted_all next left) = omega (arith, many) in z)
 
   pub distinct_end : (xs ys : List Float) (cs : List ℕ) (n k : ℕ) → Reached mx my xs₀ ys₀ cs₀ xs ys cs n k → length ys ≡ length xs
-      → length cs ≡ length xs → length xs ≡ length xs₀ → length mx ≤ k → DistinctLaid mx my xs₀ ys₀ cs₀ (Places n) xs ys cs
+      → length cs ≡ length xs → length xs ≡ length xs₀ → length mx ≤ k → DistinctLaid mx my xs₀ ys₀ cs₀ (Some n) xs ys cs
   distinct_end xs ys cs n k at p q l h =
       let end = laid_as xs₀ ys₀ cs₀ xs ys cs (front xs ys cs n) (places_within (length xs₀) (points mx my)) b at.laid in
-      (d, end.0, end.1, end.2)
+      (counted_within (length xs₀) (places (points mx my)) n c at.few, end.0, end.1, end.2)
     where
       none : points (drop k mx) (drop k my) ≡ []
       none = unfold points in rw (drop_of_length-le mx {i = k} h)
@@ -111,6 +113,3 @@ module _ (mx my xs₀ ys₀ : List Float) (cs₀ : List ℕ) where
 
       c : n ≡ length (places (points mx my))
       c = sym (length_front xs ys cs n p q (omega (arith, at.few))) ∙ ap length a
-
-      d : Places n ≡ distinct_within (length xs₀) (places (points mx my))
-      d = unfold distinct_within in rw (← c, le-leb n (length xs₀) at.few)

@@ -8,11 +8,13 @@ use lib.Seq.{drop-set-lt, take-set-lt, take-suc-set, length-take-le, get_or-take
 use lib.Ieee.{Float}
 use Rattle.lists.specs.Lists.{overlay}
 use Rattle.lists.proofs.Overlay.{take_front, overlay_front, overlay_over}
+use Rattle.std.specs.Prelude.{Option, Some, None}
 use Rattle.distance.specs.declared.Point.{Point}
 use Rattle.neighbors.specs.Places.{Place, place_of, sighted, places_in, place_xs, place_ys}
 use Rattle.neighbors.specs.StepsPlaces.{stay_count, sighted_within, place_counts, front, PlaceFound, Laid, OneMoreLaid}
 use Rattle.neighbors.proofs.Sighted.{length_places_in, sighted_old, sighted_new, length_old, length_new, count_le, count_in}
-use Rattle.neighbors.proofs.Within.{within_on, within_stop, length_place_xs, length_place_ys, length_place_counts, places_columns, place_xs_in, place_ys_in, place_counts_in}
+use Rattle.neighbors.proofs.Search.{found_some, found_no}
+use Rattle.neighbors.proofs.Within.{within_on, within_stop, counted_within, counted_beyond, length_place_xs, length_place_ys, length_place_counts, places_columns, place_xs_in, place_ys_in, place_counts_in}
 
 -- ---- the front of longer slices
 
@@ -29,7 +31,7 @@ module _ (xs ys : List Float) (cs : List ℕ) (n : ℕ) (p : length ys ≡ lengt
   pub length_front : length (front xs ys cs n) ≡ n
   length_front = length_places_in (take n xs) (take n ys) (take n cs) length_ys length_cs ∙ length_xs
 
-  pub count_front : (i : ℕ) → i < n → get_or cs i 0 ≤ stay_count (front xs ys cs n)
+  count_front : (i : ℕ) → i < n → get_or cs i 0 ≤ stay_count (front xs ys cs n)
   count_front i k =
       let e = count_in (take n xs) (take n ys) (take n cs) i length_ys length_cs ∙ get_or-take n cs i 0 k in
       subst (λ (z : ℕ). z ≤ stay_count (front xs ys cs n)) e (count_le (front xs ys cs n) i)
@@ -81,10 +83,9 @@ module _ (xs ys : List Float) (cs : List ℕ) (xs' ys' : List Float) (cs' : List
   pub laid_as : (ps qs : List Place) → ps ≡ qs → Laid ps xs ys cs xs' ys' cs' → Laid qs xs ys cs xs' ys' cs'
   laid_as ps qs e l = subst (λ (z : List Place). Laid z xs ys cs xs' ys' cs') e l
 
--- ---- what `sight` ensures, by its three ways: i is the answer of the search
+-- ---- what `sight` ensures, by its three ways
 
-module _ (xs ys : List Float) (cs : List ℕ) (n : ℕ) (m : Point) (p : length ys ≡ length xs) (q : length cs ≡ length xs) (h : n ≤ length xs)
-    (i : ℕ) (found : PlaceFound (take n xs) (take n ys) m i) where
+module _ (xs ys : List Float) (cs : List ℕ) (n : ℕ) (m : Point) (p : length ys ≡ length xs) (q : length cs ≡ length xs) (h : n ≤ length xs) where
   abbrev before : List Place
   before = front xs ys cs n
 
@@ -103,62 +104,84 @@ module _ (xs ys : List Float) (cs : List ℕ) (n : ℕ) (m : Point) (p : length 
   ff : length before ≡ n
   ff = length_front xs ys cs n p q h
 
-  e : i ≡ place_of before m
-  e = found (take n cs) fc
-
   -- There is room.
   room : length (sighted before m) ≤ length xs → within ≡ sighted before m
   unfolding sighted_within
   room l = within_on (length xs) before m [] l
 
-  old : i < n → front xs ys (set cs i (get_or cs i 0 + 1)) n ≡ sighted before m
-  old k =
-      rw (take-set-lt n cs i (get_or cs i 0 + 1) k) (
-      subst (λ (z : ℕ). places_in (take n xs) (take n ys) (set (take n cs) z (get_or cs z 0 + 1)) ≡ sighted before m) (sym e) (
-      let z = place_of before m in
-      let zn : z < n = omega (arith, e) in
-      let a : get_or cs z 0 + 1 ≡ suc (get_or (take n cs) z 0) = ap (λ (w : ℕ). w + 1) (sym (get_or-take n cs z 0 zn)) ∙ (omega arith) in
-      ap (λ (w : ℕ). places_in (take n xs) (take n ys) (set (take n cs) z w)) a
-      ∙ sighted_old (take n xs) (take n ys) (take n cs) m fy fc (omega (arith, fx))))
+  module _ {o : Option ℕ} (found : PlaceFound (take n xs) (take n ys) m o) (i : ℕ) (d : o ≡ Some i) where
+    at : (i ≡ place_of before m) × (i < length before)
+    at = found_some before m i (sym d ∙ found (take n cs) fc)
 
-  pub sight_again : i < n → OneMoreLaid xs ys cs n m n xs ys (set cs i (get_or cs i 0 + 1))
-  sight_again k =
-      let a : length (sighted before m) ≡ n = length_old before m (omega (arith, e, ff)) ∙ ff in
-      let l = laid_front xs ys cs xs ys cs' n p (length-set cs i (get_or cs i 0 + 1) ∙ q) h refl refl (drop-set-lt n cs i (get_or cs i 0 + 1) k) in
-      (sym a, laid_as xs ys cs xs ys cs' (front xs ys cs' n) within (old k ∙ sym (room (omega arith))) l)
-    where
-      cs' : List ℕ
-      cs' = set cs i (get_or cs i 0 + 1)
+    e : i ≡ place_of before m
+    e = at.0
 
-  more : n ≤ i → n + 1 ≡ length (sighted before m)
-  more k = omega (arith, length_new before m (omega (arith, e, ff)), ff)
+    k : i < n
+    k = omega (arith, at.1, ff)
 
-  pub sight_full : n ≤ i → length xs ≤ n → OneMoreLaid xs ys cs n m (n + 1) xs ys cs
-  sight_full k l =
-      let stop = within_stop (length xs) before m [] (omega (arith, more k)) in
-      (more k, laid_as xs ys cs xs ys cs before within (sym stop) (laid_front xs ys cs xs ys cs n p q h refl refl refl))
+    old : front xs ys (set cs i (get_or cs i 0 + 1)) n ≡ sighted before m
+    old =
+        rw (take-set-lt n cs i (get_or cs i 0 + 1) k) (
+        subst (λ (z : ℕ). places_in (take n xs) (take n ys) (set (take n cs) z (get_or cs z 0 + 1)) ≡ sighted before m) (sym e) (
+        let z = place_of before m in
+        let zn : z < n = omega (arith, e, k) in
+        let a : get_or cs z 0 + 1 ≡ suc (get_or (take n cs) z 0) = ap (λ (w : ℕ). w + 1) (sym (get_or-take n cs z 0 zn)) ∙ (omega arith) in
+        ap (λ (w : ℕ). places_in (take n xs) (take n ys) (set (take n cs) z w)) a
+        ∙ sighted_old (take n xs) (take n ys) (take n cs) m fy fc (omega (arith, fx))))
 
-  new : n ≤ i → n < length xs → front (set xs n m.x) (set ys n m.y) (set cs n 1) (suc n) ≡ sighted before m
-  new k l =
-      rw (take-suc-set xs n m.x l, take-suc-set ys n m.y (omega arith), take-suc-set cs n 1 (omega arith))
-      (sighted_new (take n xs) (take n ys) (take n cs) m fy fc (omega (arith, fx, e)))
+    pub sight_place : i < n
+    sight_place = k
 
-  pub sight_new : n ≤ i → n < length xs → OneMoreLaid xs ys cs n m (n + 1) (set xs n m.x) (set ys n m.y) (set cs n 1)
-  sight_new k l = (more k, laid_as xs ys cs xs' ys' cs' (front xs' ys' cs' (suc n)) within (new k l ∙ sym (room (omega (arith, more k)))) laid)
-    where
-      xs' : List Float
-      xs' = set xs n m.x
+    pub sight_few : get_or cs i 0 ≤ stay_count before
+    sight_few = count_front xs ys cs n p q h i k
 
-      ys' : List Float
-      ys' = set ys n m.y
+    pub sight_again : OneMoreLaid xs ys cs n m (Some n) xs ys (set cs i (get_or cs i 0 + 1))
+    sight_again =
+        let a : length (sighted before m) ≡ n = length_old before m (omega (arith, e, ff, k)) ∙ ff in
+        let l = laid_front xs ys cs xs ys cs' n p (length-set cs i (get_or cs i 0 + 1) ∙ q) h refl refl (drop-set-lt n cs i (get_or cs i 0 + 1) k) in
+        (counted_within (length xs) (sighted before m) n (sym a) h, laid_as xs ys cs xs ys cs' (front xs ys cs' n) within (old ∙ sym (room (omega arith))) l)
+      where
+        cs' : List ℕ
+        cs' = set cs i (get_or cs i 0 + 1)
 
-      cs' : List ℕ
-      cs' = set cs n 1
+  module _ {o : Option ℕ} (found : PlaceFound (take n xs) (take n ys) m o) (d : o ≡ None) where
+    none : length before ≤ place_of before m
+    none = found_no before m (sym d ∙ found (take n cs) fc)
 
-      tx : length xs' ≡ length xs
-      tx = length-set xs n m.x
+    more : n + 1 ≡ length (sighted before m)
+    more = omega (arith, length_new before m none, ff)
 
-      laid : Laid (front xs' ys' cs' (suc n)) xs ys cs xs' ys' cs'
-      laid =
-          laid_front xs ys cs xs' ys' cs' (suc n) (length-set ys n m.y ∙ p ∙ sym tx) (length-set cs n 1 ∙ q ∙ sym tx) (omega (arith, tx))
-          (drop-set-lt (suc n) xs n m.x (omega arith)) (drop-set-lt (suc n) ys n m.y (omega arith)) (drop-set-lt (suc n) cs n 1 (omega arith))
+    pub sight_full : length xs ≤ n → OneMoreLaid xs ys cs n m None xs ys cs
+    sight_full l =
+        let stop = within_stop (length xs) before m [] (omega (arith, more)) in (
+          counted_beyond (length xs) (sighted before m) (omega (arith, more)),
+          laid_as xs ys cs xs ys cs before within (sym stop) (laid_front xs ys cs xs ys cs n p q h refl refl refl),
+        )
+
+    new : n < length xs → front (set xs n m.x) (set ys n m.y) (set cs n 1) (suc n) ≡ sighted before m
+    new l =
+        rw (take-suc-set xs n m.x l, take-suc-set ys n m.y (omega arith), take-suc-set cs n 1 (omega arith))
+        (sighted_new (take n xs) (take n ys) (take n cs) m fy fc (omega (arith, fx, ff, none)))
+
+    pub sight_new : n < length xs → OneMoreLaid xs ys cs n m (Some (n + 1)) (set xs n m.x) (set ys n m.y) (set cs n 1)
+    sight_new l = (
+      counted_within (length xs) (sighted before m) (n + 1) more (omega arith),
+      laid_as xs ys cs xs' ys' cs' (front xs' ys' cs' (suc n)) within (new l ∙ sym (room (omega (arith, more)))) laid,
+    )
+      where
+        xs' : List Float
+        xs' = set xs n m.x
+
+        ys' : List Float
+        ys' = set ys n m.y
+
+        cs' : List ℕ
+        cs' = set cs n 1
+
+        tx : length xs' ≡ length xs
+        tx = length-set xs n m.x
+
+        laid : Laid (front xs' ys' cs' (suc n)) xs ys cs xs' ys' cs'
+        laid =
+            laid_front xs ys cs xs' ys' cs' (suc n) (length-set ys n m.y ∙ p ∙ sym tx) (length-set cs n 1 ∙ q ∙ sym tx) (omega (arith, tx))
+            (drop-set-lt (suc n) xs n m.x (omega arith)) (drop-set-lt (suc n) ys n m.y (omega arith)) (drop-set-lt (suc n) cs n 1 (omega arith))

@@ -1,6 +1,6 @@
 pub mod SameBits
-pub mod Search
 pub mod Sighted
+pub mod Search
 pub mod Within
 pub mod Laid
 pub mod Distinct

@@ -1,6 +1,6 @@
 -- How the search for nodes goes on and ends.
 use mathlib.Core.Path.{◌≡◌, refl, sym, ap, ◌∙◌}
-use mathlib.Core.Bool.{Bool, true, false, cond}
+use mathlib.Core.Bool.{Bool, true, false}
 use mathlib.Core.List.{List, [], ◌∷◌, ◌++◌, append_assoc, append-nil}
 use Prim.Native.Nat.{ℕ, suc, ◌+◌, ◌-◌, ◌<◌, ◌≤◌}
 use native.Mathlib.Nat.{sub-zero}
@@ -31,6 +31,8 @@ pub any_end : (f : ℕ → Bool) (n j : ℕ) {t : Bool} → t ≡ any_of f (from
 unfolding any_of from
 any_end f n j e h = let z : n - j ≡ 0 = omega arith in sym (e ∙ rw z)
 
+pub ruleset any_steps = (any_start, any_hit, any_on, any_end)
+
 -- ---- the numbers below n: of those below i, the found ones stand in front of l, and behind them what l₀ holds
 
 pub record Selected (f : ℕ → Bool) (n : ℕ) (l₀ l : List ℕ) (k i : ℕ) : Type 0 where
@@ -44,25 +46,30 @@ pub select_start : (f : ℕ → Bool) (n : ℕ) (l : List ℕ) → Selected f n 
 unfolding upto overlay
 select_start f n l = record { found = []; all = rw sub-zero; laid = refl; many = refl; few = omega arith }
 
-pub select_on : (f : ℕ → Bool) (n : ℕ) (l₀ l : List ℕ) (k i : ℕ) {t : Bool} {r : ℕ} {m : List ℕ} → Selected f n l₀ l k i → i < n → n ≤ length l₀ → t ≡ f i
-    → (r ≡ cond t (k + 1) k) × (m ≡ cond t (set l k i) l) → Selected f n l₀ m r (i + 1)
-unfolding select from
-select_on f n l₀ l k i {t} {r} {m} s h p e w = go t e w.0 w.1
-  where
-    go : (t : Bool) → t ≡ f i → r ≡ cond t (k + 1) k → m ≡ cond t (set l k i) l → Selected f n l₀ m r (i + 1)
-    go true e x y = record {
-      found = s.found ++ (i ∷ []);
-      all = s.all ∙ rw (left_over n i h, ← e, add-one i, append_assoc);
-      laid = y ∙ rw (s.laid, s.many) (overlay_set s.found l₀ i (omega (arith, s.many, s.few)));
-      many = omega (arith, s.many, length-append s.found (i ∷ []));
-      few = omega (arith, s.few);
-    }
-    go false e x y = record { found = s.found; all = s.all ∙ rw (left_over n i h, ← e, add-one i); laid = y ∙ s.laid; many = x ∙ s.many; few = omega (arith, s.few) }
+module _ (f : ℕ → Bool) (n : ℕ) (l₀ l : List ℕ) (k i : ℕ) (s : Selected f n l₀ l k i) (h : i < n) where
+  pub select_on : n ≤ length l₀ → f i ≡ true → Selected f n l₀ (set l k i) (k + 1) (i + 1)
+  unfolding select from
+  select_on p e = record {
+    found = s.found ++ (i ∷ []);
+    all = s.all ∙ rw (left_over n i h, e, add-one i, append_assoc);
+    laid = rw (s.laid, s.many) (overlay_set s.found l₀ i (omega (arith, s.many, s.few)));
+    many = omega (arith, s.many, length-append s.found (i ∷ []));
+    few = omega (arith, s.few);
+  }
 
-pub select_end : (f : ℕ → Bool) (n : ℕ) (l₀ l : List ℕ) (k i : ℕ) {ns : List ℕ} → ns ≡ select f (upto n) → Selected f n l₀ l k i → n ≤ i
-    → (k ≡ length ns) × (l ≡ overlay ns l₀)
-unfolding select from
-select_end f n l₀ l k i {ns} q s h =
-    let z : n - i ≡ 0 = omega arith in
-    let e : s.found ≡ ns = sym (q ∙ s.all ∙ rw (z, append-nil)) in
-    (s.many ∙ ap length e, s.laid ∙ ap (λ (r : List ℕ). overlay r l₀) e)
+  pub select_past : f i ≡ false → Selected f n l₀ l k (i + 1)
+  unfolding select from
+  select_past e = record { found = s.found; all = s.all ∙ rw (left_over n i h, e, add-one i); laid = s.laid; many = s.many; few = omega (arith, s.few) }
+
+module _ (f : ℕ → Bool) (n : ℕ) (l₀ l : List ℕ) (k i : ℕ) (s : Selected f n l₀ l k i) (h : n ≤ i) where
+  all_found : s.found ≡ select f (upto n)
+  unfolding select from
+  all_found = let z : n - i ≡ 0 = omega arith in sym (s.all ∙ rw (z, append-nil))
+
+  pub select_count : k ≡ length (select f (upto n))
+  select_count = s.many ∙ ap length all_found
+
+  pub select_laid : l ≡ overlay (select f (upto n)) l₀
+  select_laid = s.laid ∙ ap (λ (r : List ℕ). overlay r l₀) all_found
+
+pub ruleset select_steps = (select_start, select_on, select_past)

@@ -2,13 +2,15 @@
 use mathlib.Core.Path.{◌≡◌, refl, ap, ◌∙◌}
 use mathlib.Core.List.{List, [], ◌∷◌}
 use Prim.Native.Nat.{ℕ, ◌<◌, ◌≤◌}
+use native.Mathlib.Decide.{dec_lt}
 use native.Mathlib.Omega.{arith}
 use borrow.Author.Tests.{lt-leb, le-leb}
 use lib.ListN.{length, length-map}
 use lib.Ieee.{Float}
+use Rattle.std.specs.Prelude.{Some, None}
 use Rattle.distance.specs.declared.Point.{Point}
 use Rattle.neighbors.specs.Places.{Place, sighted, sighted_all, places, places_in, place_xs, place_ys}
-use Rattle.neighbors.specs.StepsPlaces.{sighted_within, places_within, place_counts}
+use Rattle.neighbors.specs.StepsPlaces.{sighted_within, places_within, place_counts, distinct_within}
 use Rattle.neighbors.proofs.Sighted.{longer_all}
 
 -- ---- the cap
@@ -31,6 +33,31 @@ module _ (cap : ℕ) where
   pub within_places : (ms : List Point) → length (places ms) ≤ cap → places_within cap ms ≡ places ms
   unfolding places places_within
   within_places ms h = within_all [] ms h
+
+  -- What the count of places tells.
+  pub counted_within : (ps : List Place) (n : ℕ) → n ≡ length ps → n ≤ cap → Some n ≡ distinct_within cap ps
+  unfolding distinct_within
+  counted_within ps n e h = rw (← e, le-leb n cap h)
+
+  pub counted_beyond : (ps : List Place) → cap < length ps → None ≡ distinct_within cap ps
+  unfolding distinct_within
+  counted_beyond ps h = rw (lt-leb (length ps) cap h)
+
+  pub within_some : (ps : List Place) (n : ℕ) → Some n ≡ distinct_within cap ps → (n ≡ length ps) × (n ≤ cap)
+  unfolding distinct_within
+  within_some ps n e = go (dec_lt cap (length ps))
+    where
+      go : Dec (cap < length ps) → (n ≡ length ps) × (n ≤ cap)
+      go (yes h) = let f : Some n ≡ None = e ∙ rw (lt-leb (length ps) cap h) in absurd (cc)
+      go (no h) = let f : Some n ≡ Some (length ps) = e ∙ rw (le-leb (length ps) cap (omega arith)) in let q : n ≡ length ps = cc in (q, omega arith)
+
+  pub within_none : (ps : List Place) → None ≡ distinct_within cap ps → cap < length ps
+  unfolding distinct_within
+  within_none ps e = go (dec_lt cap (length ps))
+    where
+      go : Dec (cap < length ps) → cap < length ps
+      go (yes h) = h
+      go (no h) = let f : None ≡ Some (length ps) = e ∙ rw (le-leb (length ps) cap (omega arith)) in absurd (cc)
 
 -- ---- the columns
 

@@ -1,10 +1,8 @@
 -- Serves the contracts of this crate's own functions; no public contract reaches it.
 -- Places in slices: the search for one, and the writing of those that there is room for. Definitions only.
-use Rattle.std.specs.Prelude.{◌≡◌, ℕ, ◌+◌, ◌<◌, ◌≤◌, cond, List, [], ◌∷◌, map, leb, length, take, Float}
+use Rattle.std.specs.Prelude.{◌≡◌, ℕ, ◌+◌, ◌<◌, ◌≤◌, cond, List, [], ◌∷◌, map, leb, ltb, length, take, Float, Option, Some, None}
 use Rattle.lists.specs.Lists.{overlay}
 use Rattle.distance.specs.declared.Point.{Point}
-use Rattle.neighbors.specs.declared.places.PlaceCount.{PlaceCount}
-use Rattle.neighbors.specs.declared.places.PlaceCount.TheVariants.{Places, TooMany}
 use Rattle.neighbors.specs.Places.{Place, sighted, places, place_of, places_in, place_xs, place_ys}
 use Rattle.distance.specs.Distance.{points}
 
@@ -30,13 +28,17 @@ place_counts ps = map (λ (p : Place). p.count) ps
 abbrev pub front : List Float → List Float → List ℕ → ℕ → List Place
 front xs ys cs n = places_in (take n xs) (take n ys) (take n cs)
 
--- How many places there are, or more than the caller's cap (the rules' 19).
-unfoldable pub distinct_within : ℕ → List Place → PlaceCount
-distinct_within cap ps = cond (leb (length ps) cap) (Places (length ps)) TooMany
+-- How many places there are; None where they are more than the caller's cap (the rules' 19).
+unfoldable pub distinct_within : ℕ → List Place → Option ℕ
+distinct_within cap ps = cond (leb (length ps) cap) (Some (length ps)) None
+
+-- The number of the place of m, if it has one.
+unfoldable pub place_found : List Place → Point → Option ℕ
+place_found ps m = cond (ltb (place_of ps m) (length ps)) (Some (place_of ps m)) None
 
 -- r is the number of the place of m among the places of two columns, whatever their counts are.
-abbrev pub PlaceFound : List Float → List Float → Point → ℕ → Type 0
-PlaceFound xs ys m r = (cs : List ℕ) → length cs ≡ length xs → r ≡ place_of (places_in xs ys cs) m
+abbrev pub PlaceFound : List Float → List Float → Point → Option ℕ → Type 0
+PlaceFound xs ys m r = (cs : List ℕ) → length cs ≡ length xs → r ≡ place_found (places_in xs ys cs) m
 
 -- Three slices of one length with n places in front, whose stays are fewer than 65,536.
 abbrev pub PlacesInFront : List Float → List Float → List ℕ → ℕ → Type 0
@@ -46,13 +48,13 @@ PlacesInFront xs ys cs n = (length ys ≡ length xs) × (length cs ≡ length xs
 abbrev pub Laid : List Place → List Float → List Float → List ℕ → List Float → List Float → List ℕ → Type 0
 Laid ps xs ys cs xs' ys' cs' = (xs' ≡ overlay (place_xs ps) xs) × (ys' ≡ overlay (place_ys ps) ys) × (cs' ≡ overlay (place_counts ps) cs)
 
--- One more stay, with the median m, where n places stand in front: r places then, and the slices hold those that there is room for.
-abbrev pub OneMoreLaid : List Float → List Float → List ℕ → ℕ → Point → ℕ → List Float → List Float → List ℕ → Type 0
+-- One more stay, with the median m, where n places stand in front: r tells how many there are then, and the slices hold those that there is room for.
+abbrev pub OneMoreLaid : List Float → List Float → List ℕ → ℕ → Point → Option ℕ → List Float → List Float → List ℕ → Type 0
 OneMoreLaid xs ys cs n m r xs' ys' cs' =
-    (r ≡ length (sighted (front xs ys cs n) m)) × Laid (sighted_within (length xs) (front xs ys cs n) (m ∷ [])) xs ys cs xs' ys' cs'
+    (r ≡ distinct_within (length xs) (sighted (front xs ys cs n) m)) × Laid (sighted_within (length xs) (front xs ys cs n) (m ∷ [])) xs ys cs xs' ys' cs'
 
 -- The places of medians in two columns: r tells how many there are, and the slices hold those that there is room for.
-abbrev pub DistinctLaid : List Float → List Float → List Float → List Float → List ℕ → PlaceCount → List Float → List Float → List ℕ → Type 0
+abbrev pub DistinctLaid : List Float → List Float → List Float → List Float → List ℕ → Option ℕ → List Float → List Float → List ℕ → Type 0
 DistinctLaid mx my xs ys cs r xs' ys' cs' =
     let ps = places_within (length xs) (points mx my) in
     (r ≡ distinct_within (length xs) (places (points mx my)))

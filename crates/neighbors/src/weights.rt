@@ -10,16 +10,20 @@ ghost use Rattle.neighbors.specs.StepsTables.{Square, Weighted, RowsFilled};
 use distance::Point;
 
 // The weight between two places, the one of lower number first.
+#[tactic(auto, using(crate::proofs::Linked::pair_links, crate::proofs::Linked::pair_apart))]
 fn pair_weight(p: Point, q: Point, c: u32, d: u32, r2: f64) -> f64
     ensures { result ≡ cond (le (euclidean p q) r2) (whole64 (max c d)) zero64 }
 {
     if distance::distance(p, q) <= r2 {
-        return lists::larger(c, d) as f64;
+        c.max(d) as f64
+    } else {
+        0.0
     }
-    0.0
 }
 
+// Kept as it is: here and below xs, ys and counts are columns that the caller lends, and lent slices stay parameters of their own.
 // Cell (i, j) of the table whose earlier rows are filled.
+#[tactic(auto, using(crate::proofs::Cells::row_before, crate::proofs::Cells::tabled_at, crate::proofs::Linked::weight_sym, crate::proofs::Linked::cell_same, crate::proofs::Linked::cell_pair))]
 fn cell(xs: &[f64], ys: &[f64], counts: &[u32], r2: f64, table: &[f64], i: usize, j: usize) -> f64
     requires { (j < length xs.now) × RowsFilled euclidean r2 xs.now ys.now counts.now table.now i }
     ensures { result ≡ weight euclidean r2 (places_in xs.now ys.now counts.now) i j }
@@ -36,28 +40,24 @@ fn cell(xs: &[f64], ys: &[f64], counts: &[u32], r2: f64, table: &[f64], i: usize
 }
 
 // Fills row i.
+#[tactic(auto, using(crate::proofs::Cells::tabled_less, crate::proofs::Cells::tabled_on, crate::proofs::Cells::tabled_row, crate::proofs::Cells::square_as))]
 fn fill_row(xs: &[f64], ys: &[f64], counts: &[u32], r2: f64, table: &mut [f64], i: usize)
     requires { RowsFilled euclidean r2 xs.now ys.now counts.now table.old i }
     ensures { Weighted euclidean r2 xs.now ys.now counts.now table.new ((i + 1) * length xs.now) }
 {
     let n = xs.len();
-    let mut j = 0;
-    while j < n {
-        let w = cell(xs, ys, counts, r2, table, i, j);
-        table[i * n + j] = w;
-        j += 1;
+    for j in 0..n {
+        table[i * n + j] = cell(xs, ys, counts, r2, table, i, j);
     }
 }
 
 // Fills the table of weights of all pairs of places, with one distance for each pair.
+#[tactic(auto, using(crate::proofs::Cells::tabled_none, crate::proofs::Cells::tabled_end, crate::proofs::Cells::square_as))]
 pub fn fill_table(xs: &[f64], ys: &[f64], counts: &[u32], r2: f64, table: &mut [f64])
     requires { Square xs.now ys.now counts.now table.old }
     ensures { Weighted euclidean r2 xs.now ys.now counts.now table.new (length xs.now * length xs.now) }
 {
-    let n = xs.len();
-    let mut i = 0;
-    while i < n {
+    for i in 0..xs.len() {
         fill_row(xs, ys, counts, r2, table, i);
-        i += 1;
     }
 }

@@ -10,7 +10,8 @@ use Rattle.codelength.specs.Codelength.{from_partition}
 use Rattle.optimize.specs.Rounds.{Run, round, run_rounds, started, optimize_partition}
 use Rattle.optimize.specs.Steps.{AtMost}
 use Rattle.optimize.proofs.Numbers.{at_most_more}
-use Rattle.optimize.proofs.Rounds.{round_counts, round_at_most}
+use Rattle.optimize.proofs.Rounds.{round_counts, round_at_most, round_length}
+use Rattle.lists.proofs.Upto.{length_upto}
 use Rattle.optimize.proofs.Start.{at_most_upto}
 
 module _ (net : Network) where
@@ -24,6 +25,17 @@ module _ (net : Network) where
   pub spent_after_100 : (x : ℕ) → (optimize_partition net x).moved ≡ true → (optimize_partition net x).rounds ≡ 100
   unfolding optimize_partition
   spent_after_100 x h = rounds_if_moved 100 true (started net x) refl h
+
+  run_length : (k : ℕ) (b : Bool) (r : Run) → length (run_rounds net k b r).state.partition ≡ length r.state.partition
+  unfolding run_rounds
+  run_length zero b r = refl
+  run_length (suc k) false r = refl
+  run_length (suc k) true r = run_length k (round net r).moved (round net r) ∙ round_length net r
+
+  -- A trial groups the network's nodes.
+  pub trial_length : (x : ℕ) → length (optimize_partition net x).state.partition ≡ length net.strength
+  unfolding optimize_partition from_partition
+  trial_length x = run_length 100 true (started net x) ∙ length_upto (length net.strength)
 
   rounds_between : (k : ℕ) (b : Bool) (r : Run) → (r.rounds ≤ (run_rounds net k b r).rounds) × ((run_rounds net k b r).rounds ≤ r.rounds + k)
   unfolding run_rounds

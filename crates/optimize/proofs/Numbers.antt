@@ -15,7 +15,7 @@ use Rattle.float.specs.Binary64.{sub64}
 use Rattle.map_state.specs.Network.{Network, row}
 use Rattle.map_state.specs.MapState.{MapState, apply_move, delta_move}
 use Rattle.optimize.specs.Rounds.{Pass, act, pass}
-use Rattle.optimize.specs.Steps.{asked, AtMost}
+use Rattle.optimize.specs.Steps.{AtMost, To, Rises}
 use Rattle.lists.proofs.Items.{All}
 use Rattle.scan.proofs.Candidates.{each}
 
@@ -45,11 +45,6 @@ highest_le1 b m (g ∷ gs) h f = highest_le1 b (cond (ltb m g) g m) gs (pick_le 
 
 pub highest_le : (b : ℕ) (part : List ℕ) → AtMost b part → highest_from 0 part ≤ b
 highest_le b part f = highest_le1 b 0 part (omega arith) (at_most_at b part f)
-
--- an answer's group
-abbrev pub To : (ℕ → Type 0) → Answer → Type 0
-To P no_move = Unit {0}
-To P (move h d) = P h
 
 to_pick : (P : ℕ → Type 0) (t : Bool) (a b : Answer) → To P a → To P b → To P (cond t a b)
 to_pick P true a b p q = p
@@ -89,14 +84,17 @@ isolation_pass_at_most b n w (u ∷ us) f =
     at_most_more (b + 1 + length us) (b + suc (length us)) _ (omega arith)
     (isolation_pass_at_most (b + 1) n (act n w u (isolate n w.state u)) us (act_at_most (b + 1) n w u (isolate n w.state u) (at_most_more b (b + 1) w.state.partition (omega arith) f) (isolate_to b n w.state u f)))
 
--- one node of a pass, as the code's loop counts
-asked_to : (b : ℕ) (alone : Bool) (n : Network) (s : MapState) (u : ℕ) → AtMost b s.partition → To (λ h. h ≤ b + 1) (asked alone n s u)
-asked_to b true n s u f = isolate_to b n s u f
-asked_to b false n s u f = scan_to (b + 1) n s u (at_most_more b (b + 1) s.partition (omega arith) f)
+-- both ways to ask a node keep to the next number
+pub scan_rises : Rises scan
+scan_rises b n s u f = scan_to (b + 1) n s u (at_most_more b (b + 1) s.partition (omega arith) f)
 
-pub act_asked_at_most : (i : ℕ) (alone : Bool) (n : Network) (w : Pass) (u : ℕ) {a : Answer} {w' : Pass} → AtMost (900000 + i) w.state.partition
-    → a ≡ asked alone n w.state u → w' ≡ act n w u a → AtMost (900000 + (i + 1)) w'.state.partition
-act_asked_at_most i alone n w u f p q =
+pub isolate_rises : Rises isolate
+isolate_rises b n s u f = isolate_to b n s u f
+
+-- one node of a pass, as the code's loop counts
+pub act_asked_at_most : (i : ℕ) (f : Network → MapState → ℕ → Answer) (n : Network) (w : Pass) (u : ℕ) {a : Answer} {w' : Pass} → Rises f → AtMost (900000 + i) w.state.partition
+    → a ≡ f n w.state u → w' ≡ act n w u a → AtMost (900000 + (i + 1)) w'.state.partition
+act_asked_at_most i f n w u r m p q =
     let b = 900000 + i in
     rw (q, p) (at_most_more (b + 1) (900000 + (i + 1)) _ (omega arith)
-    (act_at_most (b + 1) n w u (asked alone n w.state u) (at_most_more b (b + 1) w.state.partition (omega arith) f) (asked_to b alone n w.state u f)))
+    (act_at_most (b + 1) n w u (f n w.state u) (at_most_more b (b + 1) w.state.partition (omega arith) m) (r b n w.state u m)))

@@ -1,5 +1,5 @@
 -- A round from its parts, and the rounds one after the other.
-use mathlib.Core.Path.{◌≡◌, refl, sym, ap, ◌∙◌}
+use mathlib.Core.Path.{◌≡◌, refl, sym, ap, subst, ◌∙◌}
 use mathlib.Core.Bool.{Bool, true, false}
 use mathlib.Core.List.{List}
 use Prim.Native.Nat.{ℕ, zero, suc, ◌+◌, ◌-◌, ◌<◌, ◌≤◌}
@@ -14,6 +14,7 @@ use Rattle.optimize.specs.Examples
 use Rattle.optimize.specs.Rounds.{Pass, Run, pass, round, run_rounds, visits}
 use Rattle.optimize.specs.Steps.{last_visits_from, AtMost}
 use Rattle.rng.proofs.Visits.{order_length}
+use Rattle.optimize.proofs.Passes.{pass_length}
 use Rattle.optimize.proofs.Numbers.{move_pass_at_most, isolation_pass_at_most}
 
 pub round_is : (n : Network) (r : Run) {k : ℕ} {o : List ℕ} {x : ℕ} {v w : Pass} → k ≡ length n.strength → shuffle r.rng (upto k) ≡ record { list = o; rng = x }
@@ -33,22 +34,34 @@ pub round_counts : (n : Network) (r : Run) → (round n r).rounds ≡ r.rounds +
 unfolding round
 round_counts n r = refl
 
-pub rounds_on : (n : Network) (k : ℕ) (b c : Bool) (r : Run) {s : Run} → 0 < k → b ≡ true → s ≡ round n r → c ≡ s.moved → run_rounds n (k - 1) c s ≡ run_rounds n k b r
+-- a run that has come to rest stays as it is
+rest : (n : Network) (k : ℕ) (r : Run) → run_rounds n k false r ≡ r
 unfolding run_rounds
-rounds_on n zero b c r h p q e = absurd (omega arith)
-rounds_on n (suc k) b c r h p q e =
-    let m : suc k - 1 ≡ k = omega arith in
-    rw (e, q, p, m)
+rest n zero r = refl
+rest n (suc k) r = refl
 
-pub rounds_rest : (n : Network) (k : ℕ) (b : Bool) (r : Run) → 0 < k → b ≡ false → r ≡ run_rounds n k b r
+-- The rounds that are left after i of the 100, from r on, give z: past a round that moved something, after one that did not, and at the end.
+pub rounds_on : (n : Network) (i : ℕ) (r : Run) {s z : Run} → run_rounds n (100 - i) true r ≡ z → i < 100 → s ≡ round n r → s.moved ≡ true → run_rounds n (100 - (i + 1)) true s ≡ z
 unfolding run_rounds
-rounds_rest n zero b r h p = absurd (omega arith)
-rounds_rest n (suc k) b r h p = rw p
+rounds_on n i r {z = z} f h p m =
+    let o : 100 - i ≡ suc (100 - (i + 1)) = omega arith in
+    let e : (round n r).moved ≡ true = rw (← p) m in
+    let g : run_rounds n (100 - (i + 1)) (round n r).moved (round n r) ≡ z = rw o at f in
+    rw p (subst (λ (b : Bool). run_rounds n (100 - (i + 1)) b (round n r) ≡ z) e g)
 
-pub rounds_end : (n : Network) (k : ℕ) (b : Bool) (r : Run) → k ≤ 0 → r ≡ run_rounds n k b r
+pub rounds_rest : (n : Network) (i : ℕ) (r : Run) {s z : Run} → run_rounds n (100 - i) true r ≡ z → i < 100 → s ≡ round n r → s.moved ≡ false → s ≡ z
 unfolding run_rounds
-rounds_end n zero b r h = refl
-rounds_end n (suc k) b r h = absurd (omega arith)
+rounds_rest n i r {z = z} f h p m =
+    let o : 100 - i ≡ suc (100 - (i + 1)) = omega arith in
+    let e : (round n r).moved ≡ false = rw (← p) m in
+    let g : run_rounds n (100 - (i + 1)) (round n r).moved (round n r) ≡ z = rw o at f in
+    p ∙ sym (rest n (100 - (i + 1)) (round n r)) ∙ subst (λ (b : Bool). run_rounds n (100 - (i + 1)) b (round n r) ≡ z) e g
+
+pub rounds_end : (n : Network) (i : ℕ) (r : Run) {z : Run} → run_rounds n (100 - i) true r ≡ z → 100 ≤ i → r ≡ z
+unfolding run_rounds
+rounds_end n i r f h =
+    let o : 100 - i ≡ 0 = omega arith in
+    rw o at f
 
 pub moved_at_most : (b : ℕ) (n : Network) (w : Pass) (us : List ℕ) {v : Pass} → v ≡ pass scan n w us → AtMost b w.state.partition → AtMost b v.state.partition
 moved_at_most b n w us e f = rw e (move_pass_at_most b n w us f)
@@ -64,20 +77,38 @@ run_counts n r e = ap (λ (q : Run). q.rounds) e ∙ round_counts n r
 pub visits_is : (n : Network) (r : Run) {k x : ℕ} {o : List ℕ} → k ≡ length n.strength → order r.rng k ≡ record { list = o; rng = x } → o ≡ visits n r
 visits_is n r p e = sym (ap (λ (s : Shuffled). s.list) e) ∙ ap (λ (z : ℕ). (order r.rng z).list) p
 
-pub visits_on : (n : Network) (k : ℕ) (b c : Bool) (r : Run) (o : List ℕ) {s : Run} {o' : List ℕ} → 0 < k → b ≡ true → s ≡ round n r → c ≡ s.moved → o' ≡ visits n r
-    → last_visits_from n (k - 1) c s o' ≡ last_visits_from n k b r o
+visits_kept : (n : Network) (k : ℕ) (r : Run) (o : List ℕ) → last_visits_from n k false r o ≡ o
 unfolding last_visits_from
-visits_on n zero b c r o h p q e v = absurd (omega arith)
-visits_on n (suc k) b c r o h p q e v =
-    let m : suc k - 1 ≡ k = omega arith in
-    rw (v, e, q, p, m)
+visits_kept n zero r o = refl
+visits_kept n (suc k) r o = refl
 
-pub visits_rest : (n : Network) (k : ℕ) (b : Bool) (r : Run) (o : List ℕ) → 0 < k → b ≡ false → o ≡ last_visits_from n k b r o
+pub visits_on : (n : Network) (i : ℕ) (r : Run) (o : List ℕ) {s : Run} {o' z : List ℕ} → last_visits_from n (100 - i) true r o ≡ z → i < 100 → s ≡ round n r → s.moved ≡ true → o' ≡ visits n r
+    → last_visits_from n (100 - (i + 1)) true s o' ≡ z
 unfolding last_visits_from
-visits_rest n zero b r o h p = absurd (omega arith)
-visits_rest n (suc k) b r o h p = rw p
+visits_on n i r o {z = z} f h p m v =
+    let k : 100 - i ≡ suc (100 - (i + 1)) = omega arith in
+    let e : (round n r).moved ≡ true = rw (← p) m in
+    let g : last_visits_from n (100 - (i + 1)) (round n r).moved (round n r) (visits n r) ≡ z = rw k at f in
+    rw (p, v) (subst (λ (b : Bool). last_visits_from n (100 - (i + 1)) b (round n r) (visits n r) ≡ z) e g)
 
-pub visits_end : (n : Network) (k : ℕ) (b : Bool) (r : Run) (o : List ℕ) → k ≤ 0 → o ≡ last_visits_from n k b r o
+pub visits_rest : (n : Network) (i : ℕ) (r : Run) (o : List ℕ) {s : Run} {o' z : List ℕ} → last_visits_from n (100 - i) true r o ≡ z → i < 100 → s ≡ round n r → s.moved ≡ false → o' ≡ visits n r → o' ≡ z
 unfolding last_visits_from
-visits_end n zero b r o h = refl
-visits_end n (suc k) b r o h = absurd (omega arith)
+visits_rest n i r o {z = z} f h p m v =
+    let k : 100 - i ≡ suc (100 - (i + 1)) = omega arith in
+    let e : (round n r).moved ≡ false = rw (← p) m in
+    let g : last_visits_from n (100 - (i + 1)) (round n r).moved (round n r) (visits n r) ≡ z = rw k at f in
+    v ∙ sym (visits_kept n (100 - (i + 1)) (round n r) (visits n r)) ∙ subst (λ (b : Bool). last_visits_from n (100 - (i + 1)) b (round n r) (visits n r) ≡ z) e g
+
+pub visits_end : (n : Network) (i : ℕ) (r : Run) (o : List ℕ) {z : List ℕ} → last_visits_from n (100 - i) true r o ≡ z → 100 ≤ i → o ≡ z
+unfolding last_visits_from
+visits_end n i r o f h =
+    let k : 100 - i ≡ 0 = omega arith in
+    rw k at f
+
+-- ---- a round keeps the number of nodes
+
+pub round_length : (n : Network) (r : Run) → length (round n r).state.partition ≡ length r.state.partition
+unfolding round
+round_length n r =
+    let o = (shuffle r.rng (upto (length n.strength))).list in
+    pass_length isolate n (pass scan n (record { state = r.state; moved = false }) o) o ∙ pass_length scan n (record { state = r.state; moved = false }) o

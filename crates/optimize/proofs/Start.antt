@@ -6,12 +6,15 @@ use Prim.Native.Nat.{ℕ, zero, suc, ◌+◌, ◌<◌, ◌≤◌}
 use native.Mathlib.Nat.{add-zero}
 use native.Mathlib.Omega.{arith}
 use borrow.Author.Tests.{eq-eqb, ne_eqb}
-use lib.ListN.{length}
+use lib.ListN.{length, take}
+use lib.Seq.{length-take-le}
+use Rattle.std.proofs.lemmas.List.{get_or-take}
 use Rattle.lists.specs.Lists.{from, upto}
-use Rattle.lists.proofs.Upto.{length_upto, get_or_upto}
+use Rattle.lists.proofs.Upto.{length_upto, get_or_upto, is_upto}
 use Rattle.map_state.specs.Network.{Network}
 use Rattle.map_state.specs.MapState.{MapState, lowest}
 use Rattle.map_state.specs.Steps.{Firsts}
+use Rattle.map_state.proofs.Leaders.{firsts_of_lem}
 use Rattle.codelength.specs.Codelength.{from_partition}
 use Rattle.optimize.specs.Rounds.{Run, run_rounds, optimize_partition}
 use Rattle.optimize.proofs.Numbers.{at_most_more}
@@ -37,8 +40,21 @@ firsts_upto n v h =
     let i : v < n = omega (arith, length_upto n) in
     rw (get_or_upto n v i) (sym (lowest_upto n v i))
 
-pub firsts_filled : (n : ℕ) {part first : List ℕ} → part ≡ upto n → first ≡ upto n → Firsts part first
-firsts_filled n p q = rw (p, q) (firsts_upto n)
+-- in the first n places of the code's arrays
+take_upto : (n k : ℕ) → n ≤ k → take n (upto k) ≡ upto n
+take_upto n k h =
+    is_upto (take n (upto k)) n (length-take-le n (upto k) (omega (arith, length_upto k))) (λ j l. get_or-take n (upto k) j 0 l ∙ get_or_upto k j (omega arith))
+
+pub firsts_filled : (n k : ℕ) (part first : List ℕ) → n ≤ k → part ≡ upto k → first ≡ upto k → Firsts (take n part) first
+unfolding Firsts
+firsts_filled n k part first l p q v h =
+    let t = take_upto n k l in
+    let i : v < length (upto n) = rw (p, t) at h in
+    let j : v < n = omega (arith, length_upto n) in
+    rw (p, q, t) (get_or_upto k v (omega arith) ∙ sym (get_or_upto n v j) ∙ firsts_of_lem (upto n) (upto n) (firsts_upto n) v i)
+
+pub filled : (n k : ℕ) (part : List ℕ) → n ≤ k → part ≡ upto k → take n part ≡ upto n
+filled n k part l p = rw p (take_upto n k l)
 
 pub at_most_upto : (n : ℕ) → AtMost n (upto n)
 unfolding AtMost

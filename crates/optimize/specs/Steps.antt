@@ -1,26 +1,20 @@
 -- Serves the contracts of this crate's own functions; no public contract reaches it.
--- What the code's slices and structs stand for, and how a trial leaves them.
-use Rattle.std.specs.Prelude.{◌≡◌, ℕ, zero, suc, ◌<◌, ◌≤◌, Bool, true, false, List, [], length, get_or, Float}
+-- What the code's structs stand for, and how a trial leaves them.
+use Rattle.std.specs.Prelude.{◌≡◌, ℕ, zero, suc, ◌+◌, ◌<◌, ◌≤◌, Bool, true, false, List, [], length, get_or}
 use Rattle.rng.specs.Steps.{Below}
 use Rattle.map_state.specs.Network.{Network}
 use Rattle.map_state.specs.MapState.{MapState}
-use Rattle.map_state.specs.Steps.{state_of, Firsts, firsts_of, Sized}
-use Rattle.scan.specs.Scan.{Answer, scan, isolate}
+use Rattle.map_state.specs.Steps.{Fits}
+use Rattle.scan.specs.Scan.{Answer, no_move, move}
 use Rattle.optimize.specs.Rounds.{Pass, Run, round, visits, started, optimize_partition}
-use Rattle.optimize.specs.declared.PassState.{PassState}
 use Rattle.optimize.specs.declared.RunState.{RunState}
 
--- How the code's flag has a node asked.
-abbrev pub asked : Bool → Network → MapState → ℕ → Answer
-asked true = isolate
-asked false = scan
+-- The pass and the trial that the code's state, flag and struct stand for.
+abbrev pub pass_of : MapState → Bool → Pass
+pass_of s moved = record { state = s; moved = moved }
 
--- The state of a pass and of a trial that the slices and a struct stand for.
-abbrev pub pass_of : List ℕ → List Float → List Float → PassState → Pass
-pass_of part exits strengths w = record { state = state_of part exits strengths w.q; moved = w.moved }
-
-abbrev pub run_of : List ℕ → List Float → List Float → RunState → Run
-run_of part exits strengths t = record { state = state_of part exits strengths t.q; rng = t.rng; rounds = t.rounds; moved = t.moved }
+abbrev pub run_of : RunState → Run
+run_of t = record { state = t.state; rng = t.rng; rounds = t.rounds; moved = t.moved }
 
 -- The order of visiting in the last of so many rounds; o where there is none.
 unfoldable pub last_visits_from : Network → ℕ → Bool → Run → List ℕ → List ℕ
@@ -32,31 +26,32 @@ last_visits_from net (suc k) true r o = let s = round net r in last_visits_from 
 unfoldable pub last_visits : Network → ℕ → List ℕ
 last_visits net x = last_visits_from net 100 true (started net x) []
 
--- How the slices of a trial from the generator's state x end, with its answer t: the partition and the sums are those of the run, `first`
--- is of each node the lowest member of its group, and `order` is the last round's.
-pub record TrialEnds (net : Network) (x : ℕ) (part first : List ℕ) (exits strengths : List Float) (order : List ℕ) (t : RunState) : Type 0 where
-  pub run : run_of part exits strengths t ≡ optimize_partition net x
-  pub firsts : first ≡ firsts_of part
+-- How a trial from the generator's state x ends, with its answer t: it is the run, and `order` is the last round's.
+pub record TrialEnds (net : Network) (x : ℕ) (order : List ℕ) (t : RunState) : Type 0 where
+  pub run : run_of t ≡ optimize_partition net x
   pub visited : order ≡ last_visits net x
 
 -- No group's internal number is above b.
 unfoldable pub AtMost : ℕ → List ℕ → Type 0
 AtMost b part = (v : ℕ) → v < length part → get_or part v 0 ≤ b
 
--- What a pass asks for: slices that fit, an order of at most 512 visits, each to a node, and internal numbers that leave room for one more a visit.
-abbrev pub PassFrom : List Float → ℕ → List Float → List ℕ → List ℕ → List Float → List Float → List ℕ → Type 0
-PassFrom table stride strength part first exits strengths order =
-    (Sized table stride strength part first exits strengths) × (Firsts part first) × (Below (length part) order) × (length order ≤ 512) × (AtMost 900000 part)
+-- P holds of the group to which an answer moves.
+abbrev pub To : (ℕ → Type 0) → Answer → Type 0
+To P no_move = Unit {0}
+To P (move h d) = P h
 
--- The slices and w hold `after`, with the lowest members.
-abbrev pub PassEnds : Pass → List ℕ → List ℕ → List Float → List Float → PassState → Type 0
-PassEnds after part first exits strengths w = (pass_of part exits strengths w ≡ after) × Firsts part first
+-- An answer moves to an internal number in use, or to the next one.
+abbrev pub Rises : (Network → MapState → ℕ → Answer) → Type 0
+Rises f = (b : ℕ) (net : Network) (s : MapState) (u : ℕ) → AtMost b s.partition → To (λ h. h ≤ b + 1) (f net s u)
 
--- What a round asks for: slices that fit, one place of the order for each node, and internal numbers at most `most`.
-abbrev pub RoundFrom : ℕ → List Float → ℕ → List Float → List ℕ → List ℕ → List Float → List Float → List ℕ → Type 0
-RoundFrom most table stride strength part first exits strengths order =
-    (Sized table stride strength part first exits strengths) × (Firsts part first) × (length order ≡ length part) × (AtMost most part)
+-- What a pass asks for: a state of the network, an order of at most 512 visits, each to a node, and internal numbers that leave room for one more a visit.
+abbrev pub PassFrom : Network → MapState → List ℕ → Type 0
+PassFrom net s order = (Fits net s) × (Below (length s.partition) order) × (length order ≤ 512) × (AtMost 900000 s.partition)
 
--- The slices and t hold `after`, with the lowest members, and the order is the one given.
-abbrev pub RoundEnds : Run → List ℕ → List ℕ → List ℕ → List Float → List Float → List ℕ → RunState → Type 0
-RoundEnds after given part first exits strengths order t = (run_of part exits strengths t ≡ after) × (Firsts part first) × (order ≡ given)
+-- What a round asks for: a state of the network, one place of the order for each node, at most 512, and internal numbers at most `most`.
+abbrev pub RoundFrom : ℕ → Network → RunState → List ℕ → Type 0
+RoundFrom most net r order = (Fits net r.state) × (length order ≡ length r.state.partition) × (length order ≤ 512) × (AtMost most r.state.partition)
+
+-- r is the run `after`, and the order is the one given.
+abbrev pub RoundEnds : Run → List ℕ → RunState → List ℕ → Type 0
+RoundEnds after given r order = (run_of r ≡ after) × (order ≡ given)

@@ -1,19 +1,18 @@
 -- The check of a posting sheet: what it ensures where it accepts, and its last part as the code makes it.
-use mathlib.Core.Path.{◌≡◌, refl, sym, ◌∙◌}
-use mathlib.Core.Bool.{true, false, not, ◌||◌}
+use mathlib.Core.Path.{◌≡◌, refl, ap, ◌∙◌}
+use mathlib.Core.Bool.{Bool, true, false, not, ◌||◌}
 use mathlib.Core.List.{List}
 use Prim.Native.Nat.{ℕ, ◌+◌, ◌*◌, ◌≤◌, ◌<◌}
 use native.Mathlib.Omega.{arith}
-use borrow.Author.Tests.{lt-ltb, le-ltb, ltb-false, not-false, eq-eqb, ne_eqb}
+use borrow.Author.Tests.{le-ltb, ltb-false, not-false, eq-eqb, ne_eqb}
 use lib.Dec.{ltb}
 use lib.IntN.{ℤ}
 use lib.ListN.{length}
 use Rattle.lists.proofs.Tests.{eqb_self, or_left, or_right, or_true}
 use Rattle.settings.specs.declared.refusal.Refusal.TheVariants.{Output}
-use Rattle.settings.specs.declared.refusal.Checked.{Checked}
-use Rattle.settings.specs.declared.refusal.Checked.TheVariants.{Accepted, Refused}
+use Rattle.std.specs.Prelude.{Ok}
 use Rattle.settings.specs.Checks.{refuse_if, first_of, in_turn}
-use Rattle.settings.proofs.Turns.{refuse, pass, passed, first_alone, turn_first, turn_rest}
+use Rattle.settings.proofs.Turns.{passed, first_alone, turn_first, turn_rest}
 use Rattle.trace.specs.Trace.{total}
 use Rattle.checks.specs.Tracks.{same_lengths, check_lengths, check_label_lengths, check_counts}
 use Rattle.checks.proofs.Lengths.{lengths_agree, counts_few}
@@ -23,7 +22,7 @@ use Rattle.posting.specs.Steps.{SheetWithin}
 use Rattle.posting.proofs.Sizes.{sheet_long}
 
 module _ (lens : List ℕ) (labels : List ℤ) where
-  pub within : check_label_lengths lens (length labels) ≡ Accepted → check_counts (length lens) (length labels) 1 ≡ Accepted → all_in_column labels ≡ true
+  pub within : check_label_lengths lens (length labels) ≡ Ok tt → check_counts (length lens) (length labels) 1 ≡ Ok tt → all_in_column labels ≡ true
       → SheetWithin lens labels
   within a b h =
       let n = length labels in
@@ -31,29 +30,27 @@ module _ (lens : List ℕ) (labels : List ℤ) where
       record { few_traces = counted.few_traces; few_fixes = counted.few_fixes; sum = (lengths_agree lens n n n n n a).sum; labels_within = h }
 
   -- ---- 21, as the code finds it: first by the labels, then by the length of the sheet
+  or_false : (c : Bool) → (c || false) ≡ c
+  or_false true = refl
+  or_false false = refl
+
   module _ (room : ℕ) where
-    abbrev last : Checked
-    last = refuse_if (ltb room (length (sheet lens labels)) || not (all_in_column labels)) Output
+    abbrev pub short : Bool
+    short = ltb room (14 * (length labels + page_count (length labels)))
 
     -- Where lengths and counts are accepted it decides.
-    pub by_output : check_label_lengths lens (length labels) ≡ Accepted → check_counts (length lens) (length labels) 1 ≡ Accepted → {r : Checked} → last ≡ r
-        → r ≡ check_sheet lens labels room
-    unfolding check_sheet in_turn first_of
-    by_output a b e = sym (rw (a, b) (first_alone last ∙ e))
-
-    pub label_outside : all_in_column labels ≡ false → last ≡ Refused Output
-    label_outside h = refuse _ Output (or_true (ltb room (length (sheet lens labels))) (not (all_in_column labels)) (rw h))
-
-    pub room_short : SheetWithin lens labels → room < 14 * (length labels + page_count (length labels))
-        → last ≡ Refused Output
-    room_short w h = rw (lt-ltb room (length (sheet lens labels)) (rw (sheet_long lens labels w) h)) (refuse true Output refl)
-
-    pub room_enough : SheetWithin lens labels → 14 * (length labels + page_count (length labels)) ≤ room
-        → last ≡ Accepted
-    room_enough w h = rw (le-ltb room (length (sheet lens labels)) (rw (sheet_long lens labels w) h), w.labels_within) (pass false Output refl)
+    pub by_output : check_label_lengths lens (length labels) ≡ Ok tt → check_counts (length lens) (length labels) 1 ≡ Ok tt
+        → check_sheet lens labels room ≡ refuse_if (not (all_in_column labels) || short) Output
+    unfolding check_sheet in_turn first_of refuse_if
+    by_output a b = rw (a, b) (go (all_in_column labels) refl)
+      where
+        go : (t : Bool) → all_in_column labels ≡ t
+            → first_of (refuse_if (ltb room (length (sheet lens labels)) || not t) Output) (Ok tt) ≡ refuse_if (not t || short) Output
+        go true h = rw (sheet_long lens labels (within a b h)) (first_alone (refuse_if (short || false) Output) ∙ ap (λ (c : Bool). refuse_if c Output) (or_false short))
+        go false h = rw (or_true (ltb room (length (sheet lens labels))) true refl) refl
 
     -- Traces and labels within the limits, and room for the sheet, are enough.
-    pub sheet_given : 0 < length lens → SheetWithin lens labels → 14 * (length labels + page_count (length labels)) ≤ room → check_sheet lens labels room ≡ Accepted
+    pub sheet_given : 0 < length lens → SheetWithin lens labels → 14 * (length labels + page_count (length labels)) ≤ room → check_sheet lens labels room ≡ Ok tt
     unfolding check_sheet check_lengths same_lengths check_counts in_turn first_of refuse_if
     sheet_given some w h =
         rw (
@@ -68,7 +65,7 @@ module _ (lens : List ℕ) (labels : List ℤ) where
         refl
 
 -- ---- where all is accepted
-module _ (lens : List ℕ) (labels : List ℤ) (room : ℕ) (h : check_sheet lens labels room ≡ Accepted) where
+module _ (lens : List ℕ) (labels : List ℤ) (room : ℕ) (h : check_sheet lens labels room ≡ Ok tt) where
   output_passed : (ltb room (length (sheet lens labels)) || not (all_in_column labels)) ≡ false
   unfolding check_sheet
   output_passed = passed _ Output (turn_first _ _ (turn_rest _ _ (turn_rest _ _ h)))

@@ -10,15 +10,12 @@ use lib.Dec.{ltb}
 use lib.ListN.{length, length-append, replicate}
 use Rattle.text.specs.Bytes.{space}
 use Rattle.print.specs.Lines.{digits, decimal}
+use Rattle.print.specs.Steps.{Out, push, pushes}
+use Rattle.print.proofs.Pushes.{and_then, one}
 -- Named so that the examples are checked before these lemmas.
 use Rattle.posting.specs.Examples
 use Rattle.posting.specs.Sheet.{right_aligned}
-use Rattle.posting.specs.Steps.{last_digit, front_digit}
-
--- w columns in front of others, in which n is written.
-front_columns : ℕ → ℕ → List ℕ
-front_columns zero n = []
-front_columns (suc w) n = front_columns w (n / 10) ++ (front_digit n ∷ [])
+use Rattle.posting.specs.Steps.{last_digit, front_digit, front_columns}
 
 one_more : (w b : ℕ) → replicate w b ++ (b ∷ []) ≡ replicate (suc w) b
 one_more zero b = refl
@@ -31,7 +28,7 @@ blank (suc w) n z =
     let q : n / 10 ≡ 0 = omega arith in
     rw (blank w (n / 10) q, z) (one_more w space)
 
-pub front_last : (n : ℕ) → (n ≡ 0 → ⊥) → front_digit n ≡ last_digit n
+front_last : (n : ℕ) → (n ≡ 0 → ⊥) → front_digit n ≡ last_digit n
 unfolding front_digit
 front_last n z = rw (ne_eqb n 0 z)
 
@@ -78,20 +75,31 @@ aligned : (w n : ℕ) → n < 10 ^ suc w → w ≤ 19 → right_aligned (suc w) 
 unfolding decimal
 aligned w n h k = with_last w 19 n (λ q. front_aligned w 19 (n / 10) q (omega (arith, power w)) k)
 
-hundredth : (n : ℕ) → n / 10 / 10 ≡ n / 100
-hundredth n = omega arith
-
-thousandth : (n : ℕ) → n / 10 / 10 / 10 ≡ n / 1000
-thousandth n = omega arith
-
-ten_thousandth : (n : ℕ) → n / 10 / 10 / 10 / 10 ≡ n / 10000
-ten_thousandth n = omega arith
-
-pub three : (n : ℕ) → n < 1000 → right_aligned 3 (decimal n) ≡ front_digit (n / 100) ∷ front_digit (n / 10) ∷ last_digit n ∷ []
+front_length : (w n : ℕ) → length (front_columns w n) ≡ w
 unfolding front_columns
-three n h = rw (← hundredth n) (aligned 2 n h (omega arith))
+front_length zero n = refl
+front_length (suc w) n = length-append (front_columns w (n / 10)) (front_digit n ∷ []) ∙ (rw (front_length w (n / 10)) (omega arith))
 
-pub five : (n : ℕ) → n < 100000
-    → right_aligned 5 (decimal n) ≡ front_digit (n / 10000) ∷ front_digit (n / 1000) ∷ front_digit (n / 100) ∷ front_digit (n / 10) ∷ last_digit n ∷ []
+-- It fills its columns.
+pub aligned_length : (w n : ℕ) → n < 10 ^ suc w → w ≤ 19 → length (right_aligned (suc w) (decimal n)) ≡ suc w
+aligned_length w n h k = rw (aligned w n h k, length-append (front_columns w (n / 10)) (last_digit n ∷ []), front_length w (n / 10)) (omega arith)
+
+-- ---- as the code writes it
+
+pub front_none : (o : Out) (w n : ℕ) → w ≡ 0 → o ≡ pushes o (front_columns w n)
+unfolding front_columns pushes
+front_none o w n h = rw h
+
+pub front_more : (o o₁ o₂ : Out) (w n : ℕ) → (w ≡ 0 → ⊥) → o₁ ≡ pushes o (front_columns (w - 1) (n / 10)) → o₂ ≡ push o₁ (front_digit n) → o₂ ≡ pushes o (front_columns w n)
 unfolding front_columns
-five n h = rw (← ten_thousandth n, ← thousandth n, ← hundredth n) (aligned 4 n h (omega arith))
+front_more o o₁ o₂ zero n z p q = absurd (z refl)
+front_more o o₁ o₂ (suc w) n z p q =
+    let e : suc w - 1 ≡ w = omega arith in
+    and_then o o₁ o₂ (front_columns w (n / 10)) (front_digit n ∷ []) (rw e at p) (one o₁ o₂ (front_digit n) q)
+
+pub number_put : (o o₁ o₂ : Out) (w n : ℕ) → 1 ≤ w → w ≤ 20 → n < 10 ^ w → o₁ ≡ pushes o (front_columns (w - 1) (n / 10)) → o₂ ≡ push o₁ (last_digit n)
+    → o₂ ≡ pushes o (right_aligned w (decimal n))
+number_put o o₁ o₂ zero n a b h p q = absurd (omega arith)
+number_put o o₁ o₂ (suc w) n a b h p q =
+    let e : suc w - 1 ≡ w = omega arith in
+    rw (aligned w n h (omega arith)) (and_then o o₁ o₂ (front_columns w (n / 10)) (last_digit n ∷ []) (rw e at p) (one o₁ o₂ (last_digit n) q))

@@ -18,7 +18,7 @@ use Rattle.posting.specs.Sheet.{entry, entry_line, heading, right_aligned}
 use Rattle.posting.specs.Posted.{in_column}
 use Rattle.posting.specs.Meaning.{without_spaces, number_in, label_in, read_entry}
 use Rattle.posting.specs.Steps.{Within}
-use Rattle.posting.proofs.Digits.{three, five}
+use Rattle.posting.proofs.Digits.{aligned_length}
 
 -- A line of the sheet, be it a heading or that of a fix.
 pub record Line (l : List ℕ) : Type 0 where
@@ -63,10 +63,10 @@ module _ (a b c : List ℕ) (m : length a ≡ 3) (n : length b ≡ 5) (o : lengt
   last_columns = ap (take 3) past_two ∙ take_at c (line_feed ∷ []) 3 o
 
 trace_columns : (t : ℕ) → t < 1000 → length (right_aligned 3 (decimal t)) ≡ 3
-trace_columns t h = ap length (three t h)
+trace_columns t h = aligned_length 2 t h (omega arith)
 
 fix_columns : (f : ℕ) → f < 100000 → length (right_aligned 5 (decimal f)) ≡ 5
-fix_columns f h = ap length (five f h)
+fix_columns f h = aligned_length 4 f h (omega arith)
 
 label_columns : (l : ℤ) → in_column l ≡ true → length (right_aligned 3 (label_text l)) ≡ 3
 unfolding in_column label_text

@@ -7,7 +7,7 @@ use native.Mathlib.Omega.{arith}
 use lib.IntN.{ℤ, pos}
 use lib.ListN.{length, get_or}
 use lib.Seq.{ext_get_or}
-use Rattle.settings.specs.declared.refusal.Checked.TheVariants.{Accepted}
+use Rattle.std.specs.Prelude.{Ok}
 use Rattle.trace.proofs.Parts.{offset_within}
 use Rattle.text.specs.Bytes.{line_feed}
 use Rattle.posting.specs.Sheet.{Entry, entry, entry_line, entries, heading, per_page, page_count, sheet}
@@ -47,13 +47,13 @@ module _ (lens : List ℕ) (labels : List ℤ) (w : SheetWithin lens labels) whe
       ap read_entry (line_at_lem (line_of i) (omega arith) ∙ line_of_lem es i none (omega arith) ∙ ap entry_line (entry_at lens labels t f none w.sum h k))
       ∙ entry_reads t f (get_or labels i (pos 0)) (entry_within lens labels t f w h k)
 
-pub laid : (lens : List ℕ) (labels : List ℤ) (room : ℕ) → check_sheet lens labels room ≡ Accepted → Laid lens labels
+pub laid : (lens : List ℕ) (labels : List ℤ) (room : ℕ) → check_sheet lens labels room ≡ Ok tt → Laid lens labels
 laid lens labels room h =
     let w = sheet_within lens labels room h in
     record { long = sheet_long lens labels w; feeds = feed_at lens labels w; headings = page_heading lens labels w; lines = fix_line_lem lens labels w }
 
 -- The labels can be read off the sheet.
-pub sheet_tells : (lens : List ℕ) (a b : List ℤ) (m n : ℕ) → check_sheet lens a m ≡ Accepted → check_sheet lens b n ≡ Accepted → sheet lens a ≡ sheet lens b → a ≡ b
+pub sheet_tells : (lens : List ℕ) (a b : List ℤ) (m n : ℕ) → check_sheet lens a m ≡ Ok tt → check_sheet lens b n ≡ Ok tt → sheet lens a ≡ sheet lens b → a ≡ b
 sheet_tells lens a b m n p q e =
     let v = sheet_within lens a m p in
     let w = sheet_within lens b n q in

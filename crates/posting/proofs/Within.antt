@@ -1,21 +1,25 @@
 -- Labels that stand within their columns: at a place, and in a part of the slice.
 use mathlib.Core.Path.{◌≡◌, refl, sym, ◌∙◌}
-use mathlib.Core.Bool.{Bool, true, false, ◌&&◌}
+use mathlib.Core.Bool.{Bool, true, false}
 use mathlib.Core.List.{List, [], ◌∷◌}
-use Prim.Native.Nat.{ℕ, zero, suc, ◌+◌, ◌≤◌, ◌<◌}
-use native.Mathlib.Numerals.{add-one}
+use Prim.Native.Nat.{ℕ, zero, suc, ◌<◌}
 use native.Mathlib.Omega.{arith}
 use lib.IntN.{ℤ, pos}
-use lib.ListN.{length, get_or, take, drop, drop_of_length-le}
-use lib.Seq.{drop-cons}
+use lib.ListN.{length, get_or, take, drop}
 use Rattle.lists.proofs.Tests.{and_left, and_right}
+use Rattle.std.proofs.Common.{◌↔◌}
+use Rattle.std.specs.Prelude.{IsTrue}
+use Rattle.std.specs.List.{All}
 use Rattle.posting.specs.Posted.{in_column, all_in_column}
 
-pub label_at : (ls : List ℤ) (k : ℕ) → all_in_column ls ≡ true → k < length ls → in_column (get_or ls k (pos 0)) ≡ true
+any_at : (ls : List ℤ) (k : ℕ) (d : ℤ) → all_in_column ls ≡ true → k < length ls → in_column (get_or ls k d) ≡ true
 unfolding all_in_column
-label_at [] k a h = absurd (omega arith)
-label_at (l ∷ ls) zero a h = and_left (in_column l) (all_in_column ls) a
-label_at (l ∷ ls) (suc k) a h = label_at ls k (and_right (in_column l) (all_in_column ls) a) (omega arith)
+any_at [] k d a h = absurd (omega arith)
+any_at (l ∷ ls) zero d a h = and_left (in_column l) (all_in_column ls) a
+any_at (l ∷ ls) (suc k) d a h = any_at ls k d (and_right (in_column l) (all_in_column ls) a) (omega arith)
+
+pub label_at : (ls : List ℤ) (k : ℕ) → all_in_column ls ≡ true → k < length ls → in_column (get_or ls k (pos 0)) ≡ true
+label_at ls k a h = any_at ls k (pos 0) a h
 
 pub first_within : (n : ℕ) (ls : List ℤ) → all_in_column ls ≡ true → all_in_column (take n ls) ≡ true
 unfolding all_in_column
@@ -29,18 +33,20 @@ rest_within zero ls a = a
 rest_within (suc n) [] a = refl
 rest_within (suc n) (l ∷ ls) a = rest_within n ls (and_right (in_column l) (all_in_column ls) a)
 
--- ---- a loop over the labels from i on
-module _ (ls : List ℤ) (i : ℕ) {v : Bool} (inv : all_in_column (drop i ls) ≡ v) where
-  next : i < length ls → (in_column (get_or ls i (pos 0)) && all_in_column (drop (i + 1) ls)) ≡ v
-  unfolding all_in_column
-  next h = rw (add-one i) (rw (drop-cons ls i (pos 0) h) at inv)
+-- ---- the answer of a test of each label
 
-  pub all_on : (b : Bool) → b ≡ in_column (get_or ls i (pos 0)) → b ≡ true → i < length ls → all_in_column (drop (i + 1) ls) ≡ v
-  all_on b e t h = rw (sym e ∙ t) at (next h)
+abbrev pub InColumn : ℤ → Type 0
+InColumn l = in_column l ≡ true
 
-  pub all_stop : (b : Bool) → b ≡ in_column (get_or ls i (pos 0)) → b ≡ false → i < length ls → false ≡ v
-  all_stop b e t h = rw (sym e ∙ t) at (next h)
+all_pass : (ls : List ℤ) → All InColumn ls → all_in_column ls ≡ true
+unfolding all_in_column
+all_pass [] h = refl
+all_pass (l ∷ ls) h = rw (h 0 (pos 0) (omega arith)) (all_pass ls (λ k d n. h (suc k) d (omega arith)))
 
-  pub all_end : length ls ≤ i → true ≡ v
-  unfolding all_in_column
-  all_end h = rw (drop_of_length-le ls {i = i} h) at inv
+pub all_is : (ls : List ℤ) {b : Bool} → (IsTrue b ↔ All InColumn ls) → b ≡ all_in_column ls
+all_is ls {b} h = go b (all_in_column ls) refl refl
+  where
+    go : (b' t : Bool) → b ≡ b' → all_in_column ls ≡ t → b' ≡ t
+    go true t e f = sym (all_pass ls (h.0 e)) ∙ f
+    go false true e f = sym e ∙ h.1 (λ k d n. any_at ls k d f n)
+    go false false e f = refl

@@ -1,9 +1,8 @@
 -- The posting sheet of a few labels, its pages and its refusals. Proved by computing.
-use Rattle.std.specs.Prelude.{◌≡◌, refl, ℕ, ◌*◌, pos, negsuc, length, replicate}
+use Rattle.std.specs.Prelude.{◌≡◌, refl, ℕ, ◌*◌, pos, negsuc, length, replicate, Ok, Err}
 use mathlib.Core.List.{List, [], ◌∷◌, flatten}
 use Rattle.lists.specs.Lists.{from, upto}
 use Rattle.settings.specs.declared.refusal.Refusal.TheVariants.{NoTrace, Lengths, Counts, Output}
-use Rattle.settings.specs.declared.refusal.Checked.TheVariants.{Accepted, Refused}
 use Rattle.settings.specs.Checks.{refuse_if, first_of, in_turn}
 use Rattle.trace.specs.Trace.{total}
 use Rattle.checks.specs.Tracks.{same_lengths, check_lengths, check_counts}
@@ -65,39 +64,39 @@ no_fix = refl
 -- ---- refusals
 
 -- 7; 8; 8 where the lengths wrap to the number of labels; 9 for 257 traces; 21 for an output that is a byte short, and for labels outside -1 to 511
-no_trace : check_sheet [] [] 0 ≡ Refused NoTrace
+no_trace : check_sheet [] [] 0 ≡ Err NoTrace
 unfolding computed
 no_trace = refl
 
-lengths_differ : check_sheet (2 ∷ []) (pos 0 ∷ []) 42 ≡ Refused Lengths
+lengths_differ : check_sheet (2 ∷ []) (pos 0 ∷ []) 42 ≡ Err Lengths
 unfolding computed
 lengths_differ = refl
 
-lengths_wrap : check_sheet (18446744073709551615 ∷ 2 ∷ []) (pos 0 ∷ []) 42 ≡ Refused Lengths
+lengths_wrap : check_sheet (18446744073709551615 ∷ 2 ∷ []) (pos 0 ∷ []) 42 ≡ Err Lengths
 unfolding computed
 lengths_wrap = refl
 
-many_traces : check_sheet (replicate 257 0) [] 42 ≡ Refused Counts
+many_traces : check_sheet (replicate 257 0) [] 42 ≡ Err Counts
 unfolding computed
 many_traces = refl
 
-enough : check_sheet (1 ∷ []) (pos 511 ∷ []) 28 ≡ Accepted
+enough : check_sheet (1 ∷ []) (pos 511 ∷ []) 28 ≡ Ok tt
 unfolding computed
 enough = refl
 
-byte_short : check_sheet (1 ∷ []) (pos 511 ∷ []) 27 ≡ Refused Output
+byte_short : check_sheet (1 ∷ []) (pos 511 ∷ []) 27 ≡ Err Output
 unfolding computed
 byte_short = refl
 
-label_512 : check_sheet (1 ∷ []) (pos 512 ∷ []) 28 ≡ Refused Output
+label_512 : check_sheet (1 ∷ []) (pos 512 ∷ []) 28 ≡ Err Output
 unfolding computed
 label_512 = refl
 
-label_below : check_sheet (1 ∷ []) (negsuc 1 ∷ []) 28 ≡ Refused Output
+label_below : check_sheet (1 ∷ []) (negsuc 1 ∷ []) 28 ≡ Err Output
 unfolding computed
 label_below = refl
 
 -- An empty sheet is given to an output without room.
-empty_sheet : check_sheet (0 ∷ []) [] 0 ≡ Accepted
+empty_sheet : check_sheet (0 ∷ []) [] 0 ≡ Ok tt
 unfolding computed
 empty_sheet = refl

@@ -1,13 +1,10 @@
 -- A call for the posting sheet: what it refuses, what it hands back, and how the output slice ends (docs/RULES.md, "Posting sheet"). Definitions only.
-use Rattle.std.specs.Prelude.{ℕ, Bool, true, not, ◌&&◌, ◌||◌, List, [], ◌∷◌, eqb, leb, ltb, ℤ, pos, negsuc, length}
+use Rattle.std.specs.Prelude.{ℕ, Bool, true, not, ◌&&◌, ◌||◌, List, [], ◌∷◌, eqb, leb, ltb, ℤ, pos, negsuc, length, Result, Ok, Err}
 use Rattle.lists.specs.Lists.{overlay}
+use Rattle.settings.specs.declared.refusal.Refusal.{Refusal}
 use Rattle.settings.specs.declared.refusal.Refusal.TheVariants.{Output}
-use Rattle.settings.specs.declared.refusal.Checked.{Checked}
-use Rattle.settings.specs.declared.refusal.Checked.TheVariants.{Accepted, Refused}
-use Rattle.settings.specs.Checks.{refuse_if, in_turn}
+use Rattle.settings.specs.Checks.{Checked, refuse_if, in_turn}
 use Rattle.checks.specs.Tracks.{check_label_lengths, check_counts}
-use Rattle.posting.specs.declared.Posted.{Posted}
-use Rattle.posting.specs.declared.Posted.TheVariants as posted
 use Rattle.posting.specs.Sheet.{sheet}
 
 -- A label from -1 to 511.
@@ -30,16 +27,16 @@ check_sheet lens labels room =
 
 -- How a call ends: what it hands back, and what the output slice then holds.
 pub record Ends : Type 0 where
-  pub answer : Posted
+  pub answer : Result ℕ Refusal
   pub output : List ℕ
 
-abbrev pub ends : Posted → List ℕ → Ends
+abbrev pub ends : Result ℕ Refusal → List ℕ → Ends
 ends r out = record { answer = r; output = out }
 
 -- The text in front of the output slice, which keeps its contents past it, and how many bytes that is; a refusal leaves the slice as it was.
 unfoldable pub ends_by : Checked → List ℕ → List ℕ → Ends
-ends_by Accepted text out = ends (posted.Bytes (length text)) (overlay text out)
-ends_by (Refused e) text out = ends (posted.Refused e) out
+ends_by (Ok x) text out = ends (Ok (length text)) (overlay text out)
+ends_by (Err e) text out = ends (Err e) out
 
 unfoldable pub post_sheet : List ℕ → List ℤ → List ℕ → Ends
 post_sheet lens labels out = ends_by (check_sheet lens labels (length out)) (sheet lens labels) out

@@ -1,6 +1,6 @@
 -- Serves the contracts of this crate's own functions; no public contract reaches it.
 -- The sheet written fix by fix, as the code does.
-use Rattle.std.specs.Prelude.{◌≡◌, ℕ, suc, ◌+◌, ◌%◌, ◌≤◌, ◌<◌, true, cond, List, [], ◌∷◌, ◌++◌, eqb, ℤ, length}
+use Rattle.std.specs.Prelude.{◌≡◌, ℕ, zero, suc, ◌+◌, ◌/◌, ◌%◌, ◌≤◌, ◌<◌, true, cond, List, [], ◌∷◌, ◌++◌, eqb, ℤ, length}
 use Rattle.trace.specs.Trace.{total}
 use Rattle.text.specs.Bytes.{space}
 use Rattle.posting.specs.Sheet.{Entry, entry_line, heading, per_page}
@@ -13,6 +13,11 @@ last_digit n = 48 + n % 10
 -- What stands in a column in front of others, where n is the number up to this column: its last digit, or a space where there is none yet.
 unfoldable pub front_digit : ℕ → ℕ
 front_digit n = cond (eqb n 0) space (last_digit n)
+
+-- w columns in front of others, in which n is written.
+unfoldable pub front_columns : ℕ → ℕ → List ℕ
+front_columns zero n = []
+front_columns (suc w) n = front_columns w (n / 10) ++ (front_digit n ∷ [])
 
 -- The lines that fix i of the sheet gives: the first of a page stands below a heading.
 unfoldable pub lines_at : ℕ → Entry → List (List ℕ)

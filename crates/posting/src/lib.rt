@@ -7,46 +7,32 @@ ghost use Rattle.posting.specs.Sheet.{sheet as Sheet·sheet, page_count};
 ghost use Rattle.posting.specs.Posted.{check_sheet, ends, post_sheet};
 ghost use Rattle.posting.specs.Steps.{SheetWithin};
 
-use settings::refusal::{Checked, Refusal};
+use settings::refusal::Refusal;
 
 mod columns;
 mod lines;
 
-// What a call hands back: how many bytes the sheet has, or the refusal.
-#[derive(Clone, Copy)]
-pub enum Posted {
-    Bytes(usize),
-    Refused(Refusal),
-}
-
 // How long the sheet of n fixes is.
+#[tactic(auto, unfolding(crate::specs::Sheet::page_count))]
 fn sheet_length(n: usize) -> usize
     requires { n ≤ 65536 }
     ensures { result ≡ 14 * (n + page_count n) }
 {
-    14 * (n + (n + 59) / 60)
+    14 * (n + n.div_ceil(60))
 }
 
 // 7, 8, 9, then 21. `room` is the length of the output slice.
-fn check_sheet(lens: &[u32], labels: &[i32], room: usize) -> Checked
+#[tactic(auto, using(crate::proofs::Checked::by_output, checks::proofs::Lengths::counts_few), unfolding(crate::specs::Posted::check_sheet, settings::proofs::Turns::turns))]
+fn check_sheet(lens: &[u32], labels: &[i32], room: usize) -> Result<(), Refusal>
     ensures { result ≡ check_sheet lens.now labels.now room }
 {
     let n = labels.len();
-    let a = checks::check_label_lengths(lens, n);
-    if settings::refusal::is_refused(a) {
-        return a;
+    checks::check_label_lengths(lens, n)?;
+    checks::slices::check_counts(lens.len(), n, 1)?;
+    if !crate::lines::all_in_column(labels) || room < sheet_length(n) {
+        return Err(Refusal::Output);
     }
-    let b = checks::slices::check_counts(lens.len(), n, 1);
-    if settings::refusal::is_refused(b) {
-        return b;
-    }
-    if !crate::lines::all_in_column(labels) {
-        return Checked::Refused(Refusal::Output);
-    }
-    if room < sheet_length(n) {
-        return Checked::Refused(Refusal::Output);
-    }
-    Checked::Accepted
+    Ok(())
 }
 
 // Writes the sheet as far as there is room, and hands back how many bytes are written. Building block: labels and lengths are checked already.
@@ -57,13 +43,11 @@ pub fn write_sheet(lens: &[u32], labels: &[i32], out: &mut [u8]) -> usize
     crate::lines::put_lines(out, lens, labels)
 }
 
-// The posting sheet of traces of these lengths, whose fixes have these labels, into the front of `out`.
-pub fn posting_sheet(lens: &[u32], labels: &[i32], out: &mut [u8]) -> Posted
+// The posting sheet of traces of these lengths, whose fixes have these labels, into the front of `out`: how many bytes it has, or the refusal.
+#[tactic(auto, using(crate::proofs::Checked::sheet_within, crate::proofs::Writing::ends_refused))]
+pub fn posting_sheet(lens: &[u32], labels: &[i32], out: &mut [u8]) -> Result<usize, Refusal>
     ensures { ends result out.new ≡ post_sheet lens.now labels.now out.old }
 {
-    let c = check_sheet(lens, labels, out.len());
-    if let Checked::Refused(e) = c {
-        return Posted::Refused(e);
-    }
-    Posted::Bytes(write_sheet(lens, labels, out))
+    check_sheet(lens, labels, out.len())?;
+    Ok(write_sheet(lens, labels, out))
 }

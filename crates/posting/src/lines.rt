@@ -10,23 +10,13 @@ ghost use Rattle.posting.specs.Steps.{lines_from, TraceWithin, SheetWithin};
 fn in_column(l: i32) -> bool
     ensures { result ≡ in_column l }
 {
-    if l < -1 {
-        return false;
-    }
-    l <= 511
+    (-1..=511).contains(&l)
 }
 
 pub fn all_in_column(labels: &[i32]) -> bool
     ensures { result ≡ all_in_column labels.now }
 {
-    let mut i = 0;
-    while i < labels.len() {
-        if !in_column(labels[i]) {
-            return false;
-        }
-        i += 1;
-    }
-    true
+    labels.iter().all(|&l| in_column(l))
 }
 
 // The lines of trace t, whose fixes have these labels; i fixes stand on the sheet before them.
@@ -35,28 +25,24 @@ fn put_trace(out: &mut [u8], at: usize, i: usize, t: u64, labels: &[i32]) -> usi
     ensures { Steps·out out.new result ≡ pushes (Steps·out out.old at) (flatten (lines_from i (trace_entries t 0 labels.now))) }
 {
     let mut k = at;
-    let mut f = 0;
-    while f < labels.len() {
-        let j = i + f;
-        k = crate::columns::put_fix(out, k, j, t, f as u64, labels[f]);
-        f += 1;
+    for (f, &l) in labels.iter().enumerate() {
+        k = crate::columns::put_fix(out, k, i + f, t, f as u64, l);
     }
     k
 }
 
 // The lines of all traces, from the front of `out`.
+#[tactic(auto, using(crate::proofs::LinesFrom::trace_fits))]
 pub fn put_lines(out: &mut [u8], lens: &[u32], labels: &[i32]) -> usize
     requires { SheetWithin lens.now labels.now }
     ensures { Steps·out out.new result ≡ pushes (Steps·out out.old 0) (flatten (lines_from 0 (entries 0 lens.now labels.now))) }
 {
     let mut k = 0;
-    let mut t = 0;
     let mut i = 0;
-    while t < lens.len() {
-        let end = i + lens[t] as usize;
+    for (t, &len) in lens.iter().enumerate() {
+        let end = i + len as usize;
         k = put_trace(out, k, i, t as u64, &labels[i..end]);
         i = end;
-        t += 1;
     }
     k
 }

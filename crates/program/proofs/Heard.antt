@@ -5,19 +5,17 @@ use mathlib.Core.Option.{bind}
 use Prim.Native.Nat.{ℕ}
 use native.Mathlib.Omega.{arith}
 use lib.ListN.{length}
-use Rattle.lists.proofs.Parts.{lent, lent_first}
-use Rattle.text.specs.declared.Parsed.{Parsed}
 use Rattle.text.specs.Bytes.{bytes}
 use Rattle.text.specs.Form.{past, setting_names, lines_of}
-use Rattle.text.specs.Values.{Read, outside, inside, values_of, read, Columns}
-use Rattle.text.specs.Parsed.{parsed}
+use Rattle.text.specs.Values.{outside, inside, values_of, read, Columns}
+use Rattle.text.specs.Parsed.{Parsed, parsed}
 use Rattle.print.specs.Written.{Writes}
 use Rattle.print.proofs.Sizes.{within}
 use Rattle.input.specs.Calls.{Call, Heard, whole, broken, heard, ReadFrom}
 use Rattle.reply.specs.declared.Form.{Form}
 use Rattle.reply.specs.Program.{read_text, program_text, fresh_columns, FromText}
 use Rattle.reply.proofs.Room.{answer_whole}
-use Rattle.program.specs.Answer.{answer_to, Answer, Answered}
+use Rattle.program.specs.Answer.{answer_to, Answered}
 
 -- The empty text is not in the form.
 nothing_read : read [] ≡ outside
@@ -34,7 +32,7 @@ heard_text (whole t) p c r = r
 heard_text broken p c r =
     record {
       answer = r ∙ sym (ap parsed nothing_read);
-      slices = λ s. λ ls. λ q. absurd (let z : ◌≡◌ {A = Read} outside (inside s ls) = sym nothing_read ∙ q in let w : ◌≡◌ {A = ℕ} 0 1 = cc in omega arith);
+      slices = λ s. λ ls. λ q. absurd (let z : outside ≡ inside s ls = sym nothing_read ∙ q in cc);
     }
 
 heard_answer : (form : Form) (h : Heard) → program_text form (text_of h) ≡ answer_to form h
@@ -50,7 +48,3 @@ heard_answered form gs out r out' w e k =
       within = omega (arith, within _ _ _ _ w);
       first = record { calls = gs; answer = answer_whole form (text_of (heard gs)) out r out' w e ∙ heard_answer form (heard gs) };
     }
-
--- The part of `out` that `main` hands on is the answer.
-pub answer_part : {form : Form} {out : List ℕ} {r : ℕ} → Answered form out r → (f : Form) × Answer f (lent 0 r out)
-answer_part {form} {out} {r} a = (form, rw (lent_first r out) a.first)

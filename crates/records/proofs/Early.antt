@@ -9,10 +9,9 @@ use Rattle.trace.specs.Trace.{Fix, fixes, traces}
 use Rattle.settings.specs.declared.config.Config.{Config}
 use Rattle.settings.specs.declared.refusal.Refusal.{Refusal}
 use Rattle.settings.specs.declared.refusal.Refusal.TheVariants.{R1, R2, MinStayingTime, MaxTimeBetween, TimeBounds, MinSize, NoTrace, Lengths, Counts, Work, EmptyTrace, Coordinate, Timestamp, PartlyTimed, TimeOrder, CoordinateSize, TimeMark, MinSpatialResolution, ResolutionBounds}
-use Rattle.settings.specs.declared.refusal.Checked.{Checked}
-use Rattle.settings.specs.declared.refusal.Checked.TheVariants.{Accepted, Refused}
+use Rattle.std.specs.Prelude.{Ok, Err}
 use Rattle.settings.specs.Refusals.{number_of}
-use Rattle.settings.specs.Checks.{refuse_if, first_of, in_turn, each_of, each_from}
+use Rattle.settings.specs.Checks.{Checked, refuse_if, first_of, in_turn, each_of, each_from}
 use Rattle.settings.specs.Settings.{check_config, check_time_bounds, check_resolution}
 use Rattle.checks.specs.Traces.{check_fix, check_times, check_trace, check_fix_size, check_size}
 use Rattle.checks.specs.Tracks.{check_lengths, check_counts, check_work, check_mark, check_contents, check_tracks}
@@ -22,18 +21,18 @@ use Rattle.records.specs.StepsJudge.{check_records}
 
 -- A refusal, if there is one, is neither 18 nor 19.
 abbrev pub early : Checked → Bool
-early Accepted = true
-early (Refused e) = not (eqb (number_of e) 18) && not (eqb (number_of e) 19)
+early (Ok u) = true
+early (Err e) = not (eqb (number_of e) 18) && not (eqb (number_of e) 19)
 
-early_if : (b : Bool) (e : Refusal) → early (Refused e) ≡ true → early (refuse_if b e) ≡ true
+early_if : (b : Bool) (e : Refusal) → early (Err e) ≡ true → early (refuse_if b e) ≡ true
 unfolding refuse_if
 early_if true e h = h
 early_if false e h = refl
 
 early_first : (c d : Checked) → early c ≡ true → early d ≡ true → early (first_of c d) ≡ true
 unfolding first_of
-early_first Accepted d p q = q
-early_first (Refused e) d p q = p
+early_first (Ok u) d p q = q
+early_first (Err e) d p q = p
 
 early_turn : (c : Checked) (cs : List Checked) → early c ≡ true → early (in_turn cs) ≡ true → early (in_turn (c ∷ cs)) ≡ true
 unfolding in_turn

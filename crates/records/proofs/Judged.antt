@@ -13,9 +13,8 @@ use lib.Ieee.{Float}
 use Rattle.trace.specs.Trace.{Fix, fixes, read_time, total, traces}
 use Rattle.settings.specs.declared.config.Config.{Config}
 use Rattle.settings.specs.declared.refusal.Refusal.TheVariants.{EmptyTrace, TimeMark}
-use Rattle.settings.specs.declared.refusal.Checked.{Checked}
-use Rattle.settings.specs.declared.refusal.Checked.TheVariants.{Accepted, Refused}
-use Rattle.settings.specs.Checks.{refuse_if, first_of, in_turn, each_of, each_from}
+use Rattle.std.specs.Prelude.{Ok, Err}
+use Rattle.settings.specs.Checks.{Checked, refuse_if, first_of, in_turn, each_of, each_from}
 use Rattle.settings.specs.Settings.{check_config}
 use Rattle.checks.specs.Traces.{check_trace, check_size}
 use Rattle.checks.specs.Tracks.{check_lengths, check_counts, check_work, check_mark, check_contents, check_tracks}
@@ -23,24 +22,10 @@ use Rattle.trace.proofs.Fixes.{as_read}
 use Rattle.settings.proofs.Turns.{first_alone}
 use Rattle.checks.proofs.Lengths.{lengths_agree}
 use Rattle.records.specs.declared.FixRecord.{FixRecord}
-use Rattle.records.specs.declared.judge.Times.{Times}
 use Rattle.records.specs.declared.judge.Judge.{Judge}
 use Rattle.records.specs.Records.{fix_of, xs_of, ys_of, times_of, marks_of, work_floats}
-use Rattle.records.specs.StepsJudge.{no_times, begun, passed, ended, next, blank, started, stepped, run, contents, checks_from, check_records}
+use Rattle.records.specs.StepsJudge.{begun, passed, ended, next, blank, started, stepped, run, contents, checks_from, check_records}
 use Rattle.records.proofs.Machine.{assoc, verdict, Owed, empty, owed_new, empty_trace, told}
-
--- ---- before the first record
-
-pub start_none : (lens : List ℕ) {t : Times} {s : Judge} → length lens ≡ 0 → t ≡ no_times
-    → s ≡ begun 0 0 (record { marks = true; first = Accepted; far = Accepted; trace = 0; left = 0; times = t }) → s ≡ started lens
-unfolding started blank
-start_none [] e p q = rw p at q
-start_none (m ∷ ms) e p q = absurd (omega arith)
-
-pub start_some : (lens : List ℕ) {t : Times} {s : Judge} → t ≡ no_times
-    → s ≡ begun 0 (get_or lens 0 0) (record { marks = true; first = Accepted; far = Accepted; trace = 0; left = 0; times = t }) → s ≡ started lens
-unfolding started blank
-start_some lens p q = rw p at q
 
 -- ---- 11 to 16 of all records
 
@@ -59,7 +44,7 @@ traces_told (m ∷ ms) fs h l = by_count (eqb m 0) refl
     by_count : (b : Bool) → eqb m 0 ≡ b → verdict (m ∷ ms) (run (m ∷ ms) (started (m ∷ ms)) fs) ≡ Both
     by_count true z =
         let p : m ≡ 0 = eqb-true m 0 z in
-        empty (m ∷ ms) fs (started (m ∷ ms)) Accepted (EmptyTrace 0) (rw z) (each_from check_size 0 (traces (m ∷ ms) gs))
+        empty (m ∷ ms) fs (started (m ∷ ms)) (Ok tt) (EmptyTrace 0) (rw z) (each_from check_size 0 (traces (m ∷ ms) gs))
         ∙ sym (ap (λ (c : Checked). first_of c (each_from check_size 0 (traces (m ∷ ms) gs))) (empty_trace (m ∷ ms) 0 (take m gs)
         (each_from check_trace 1 (traces ms (drop m gs))) (ap (λ (j : ℕ). length (take j gs)) p)))
     by_count false z =
@@ -124,10 +109,10 @@ unfolding contents check_contents in_turn verdict
 contents_told lens fs h l =
     ap₂ first_of (all_marks lens fs) (traces_told lens fs h l) ∙ rw (fixes_are fs, first_alone (each_from check_size 0 (traces lens (map fix_of fs))))
 
-in_turn_lem : (a b c d x y : Checked) → (b ≡ Accepted → x ≡ y) → in_turn (a ∷ b ∷ c ∷ d ∷ x ∷ []) ≡ first_of a (in_turn (b ∷ c ∷ d ∷ y ∷ []))
+in_turn_lem : (a b c d x y : Checked) → (b ≡ Ok tt → x ≡ y) → in_turn (a ∷ b ∷ c ∷ d ∷ x ∷ []) ≡ first_of a (in_turn (b ∷ c ∷ d ∷ y ∷ []))
 unfolding in_turn first_of
-in_turn_lem a (Refused e) c d x y h = refl
-in_turn_lem a Accepted c d x y h = rw (h refl)
+in_turn_lem a (Err e) c d x y h = refl
+in_turn_lem a (Ok u) c d x y h = rw (h refl)
 
 -- What the code decides is what the checks of the fit say of the records.
 pub checks_told : (c : Config) (fs : List FixRecord) (lens : List ℕ) (labels cap columns marks floats words : ℕ)

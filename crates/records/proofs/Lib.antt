@@ -1,9 +1,8 @@
-pub mod Loan
 pub mod Steps
 pub mod Columns
 pub mod OpenTrace
 pub mod Machine
 pub mod Judged
-pub mod Packing
+pub mod Runs
 pub mod Early
 pub mod Fits

@@ -12,9 +12,8 @@ use lib.Seq.{drop-cons, length-take-le}
 use Rattle.trace.specs.Trace.{Fix, total, traces}
 use Rattle.settings.specs.declared.refusal.Refusal.{Refusal}
 use Rattle.settings.specs.declared.refusal.Refusal.TheVariants.{EmptyTrace}
-use Rattle.settings.specs.declared.refusal.Checked.{Checked}
-use Rattle.settings.specs.declared.refusal.Checked.TheVariants.{Accepted, Refused}
-use Rattle.settings.specs.Checks.{refuse_if, first_of, in_turn, each_of, each_from}
+use Rattle.std.specs.Prelude.{Ok, Err}
+use Rattle.settings.specs.Checks.{Checked, refuse_if, first_of, in_turn, each_of, each_from}
 use Rattle.checks.specs.Traces.{check_fix, check_trace, check_fix_size, check_size}
 use Rattle.settings.proofs.Turns.{first_alone}
 use Rattle.records.specs.declared.FixRecord.{FixRecord}
@@ -27,8 +26,8 @@ use Rattle.records.proofs.OpenTrace.{rest_times, rest_trace, rest_next, rest_non
 
 pub assoc : (a b c : Checked) → first_of (first_of a b) c ≡ first_of a (first_of b c)
 unfolding first_of
-assoc Accepted b c = refl
-assoc (Refused e) b c = refl
+assoc (Ok u) b c = refl
+assoc (Err e) b c = refl
 
 on_order : (a b c d r e x y z : Checked)
     → first_of (first_of a b) (first_of (first_of (first_of c d) r) (first_of (first_of e x) (first_of y z))) ≡ first_of a
@@ -36,8 +35,8 @@ on_order : (a b c d r e x y z : Checked)
 on_order a b c d r e x y z = simp assoc
 
 end_order : (a b d r e x z : Checked)
-    → first_of (first_of (first_of a b) d) (first_of r (first_of (first_of e x) z)) ≡ first_of a (first_of (first_of (first_of (first_of b Accepted) d) r)
-    (first_of e (first_of (first_of x Accepted) z)))
+    → first_of (first_of (first_of a b) d) (first_of r (first_of (first_of e x) z)) ≡ first_of a (first_of (first_of (first_of (first_of b (Ok tt)) d) r)
+    (first_of e (first_of (first_of x (Ok tt)) z)))
 end_order a b d r e x z = simp (assoc, first_alone)
 
 -- ---- what the machine owes
@@ -56,19 +55,19 @@ module _ (lens : List ℕ) where
       (first_of s.far (first_of (check_size s.trace (take n gs)) (each_from check_size (suc s.trace) behind))))
 
   -- Once it has refused, it stays.
-  keeps : (s : Judge) (f : FixRecord) (e : Refusal) → s.first ≡ Refused e → (stepped lens s f).first ≡ Refused e
+  keeps : (s : Judge) (f : FixRecord) (e : Refusal) → s.first ≡ Err e → (stepped lens s f).first ≡ Err e
   unfolding stepped passed next begun ended first_of
   keeps s f e h = go (eqb (s.left - 1) 0)
     where
-      go : (b : Bool) → (cond b (next lens (ended (passed f s))) (passed f s)).first ≡ Refused e
+      go : (b : Bool) → (cond b (next lens (ended (passed f s))) (passed f s)).first ≡ Err e
       go false = rw h
       go true = opened (ltb (suc s.trace) (length lens))
         where
-          opened : (b : Bool) → (cond b (begun (suc s.trace) (get_or lens (suc s.trace) 0) (ended (passed f s))) (ended (passed f s))).first ≡ Refused e
+          opened : (b : Bool) → (cond b (begun (suc s.trace) (get_or lens (suc s.trace) 0) (ended (passed f s))) (ended (passed f s))).first ≡ Err e
           opened true = rw h
           opened false = rw h
 
-  stuck : (fs : List FixRecord) (s : Judge) (e : Refusal) → s.first ≡ Refused e → verdict (run lens s fs) ≡ Refused e
+  stuck : (fs : List FixRecord) (s : Judge) (e : Refusal) → s.first ≡ Err e → verdict (run lens s fs) ≡ Err e
   unfolding run verdict first_of
   stuck [] s e h = rw h
   stuck (f ∷ fs) s e h = stuck fs (stepped lens s f) e (keeps s f e h)
@@ -126,11 +125,11 @@ module _ (lens : List ℕ) where
   none_left s h = rw (le-ltb (suc s.trace) (length lens) h)
 
   -- An empty trace refuses for good.
-  pub empty : (fs : List FixRecord) (s : Judge) (c : Checked) (e : Refusal) → s.first ≡ first_of c (Refused e) → (d : Checked)
-      → verdict (run lens s fs) ≡ first_of c (first_of (Refused e) d)
+  pub empty : (fs : List FixRecord) (s : Judge) (c : Checked) (e : Refusal) → s.first ≡ first_of c (Err e) → (d : Checked)
+      → verdict (run lens s fs) ≡ first_of c (first_of (Err e) d)
   unfolding first_of
-  empty fs s Accepted e h d = stuck fs s e h
-  empty fs s (Refused e₁) e h d = stuck fs s e₁ h
+  empty fs s (Ok u) e h d = stuck fs s e h
+  empty fs s (Err e₁) e h d = stuck fs s e₁ h
 
   -- The fixes to come of a new trace.
   pub owed_new : (s : Judge) (k m : ℕ) (gs : List Fix) → 0 < m → m ≤ length gs
@@ -141,7 +140,7 @@ module _ (lens : List ℕ) where
       let n : 0 < length (take m gs) = rw (length-take-le m gs l) h in
       rw (ne_eqb m 0 (λ e. omega arith), first_alone s.first, trace_fresh k (take m gs) n)
 
-  pub empty_trace : (k : ℕ) (ts : List Fix) (d : Checked) → length ts ≡ 0 → first_of (check_trace k ts) d ≡ Refused (EmptyTrace k)
+  pub empty_trace : (k : ℕ) (ts : List Fix) (d : Checked) → length ts ≡ 0 → first_of (check_trace k ts) d ≡ Err (EmptyTrace k)
   unfolding check_trace in_turn refuse_if first_of
   empty_trace k ts d h = rw (eq-eqb (length ts) 0 h)
 
@@ -177,7 +176,7 @@ module _ (lens : List ℕ) where
     whole : m + total (drop (suc k₁) lens) ≡ length fs
     whole = sym (ap total cut ∙ unfold total in refl) ∙ sum
 
-    first_empty : m ≡ 0 → each_from check_trace k₁ (traces (drop k₁ lens) gs) ≡ Refused (EmptyTrace k₁)
+    first_empty : m ≡ 0 → each_from check_trace k₁ (traces (drop k₁ lens) gs) ≡ Err (EmptyTrace k₁)
     unfolding traces each_from
     first_empty z =
         rw cut (empty_trace k₁ (take m gs) (each_from check_trace (suc k₁) (traces (drop (suc k₁) lens) (drop m gs)))

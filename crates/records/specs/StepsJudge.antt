@@ -1,23 +1,19 @@
 -- Serves the contracts of this crate's own functions; no public contract reaches it.
 -- The machine that judges records one by one, as the code does, and the verdict on them. proofs/Judged.antt joins it to the checks of crate
 -- `checks`. Definitions only.
-use Rattle.std.specs.Prelude.{ℕ, suc, ◌-◌, true, ◌&&◌, not, cond, List, [], ◌∷◌, eqb, leb, ltb, length, get_or}
+use Rattle.std.specs.Prelude.{ℕ, suc, ◌-◌, true, ◌&&◌, not, cond, List, [], ◌∷◌, eqb, leb, ltb, length, get_or, Result, Ok, Err}
 use Rattle.float.specs.Binary64.{zero64}
 use Rattle.trace.specs.Trace.{time_of, read_time}
 use Rattle.settings.specs.declared.config.Config.{Config}
-use Rattle.settings.specs.declared.refusal.Refusal.TheVariants.{EmptyTrace, Coordinate, Timestamp, PartlyTimed, TimeOrder, CoordinateSize, TimeMark}
-use Rattle.settings.specs.declared.refusal.Checked.{Checked}
-use Rattle.settings.specs.declared.refusal.Checked.TheVariants.{Accepted, Refused}
-use Rattle.settings.specs.Refusals.{number_of, trace_of}
-use Rattle.settings.specs.Checks.{is_refused, refuse_if, first_of, in_turn}
+use Rattle.settings.specs.declared.refusal.Refusal.{Refusal}
+use Rattle.settings.specs.declared.refusal.Refusal.TheVariants.{EmptyTrace, PartlyTimed, TimeOrder, TimeMark}
+use Rattle.settings.specs.Checks.{Checked, refuse_if, first_of, in_turn}
 use Rattle.settings.specs.Settings.{check_config}
 use Rattle.checks.specs.Traces.{above, check_fix, check_fix_size}
 use Rattle.checks.specs.Tracks.{check_lengths, check_counts, check_work, check_tracks}
 use Rattle.records.specs.declared.FixRecord.{FixRecord}
 use Rattle.records.specs.declared.judge.Times.{Times}
 use Rattle.records.specs.declared.judge.Judge.{Judge}
-use Rattle.records.specs.declared.packed.Packed.{Packed}
-use Rattle.records.specs.declared.verdict.Verdict.{Verdict}
 use Rattle.records.specs.Records.{fix_of, xs_of, ys_of, times_of, marks_of, work_floats}
 
 -- ---- the times of the open trace
@@ -67,7 +63,7 @@ next lens s = cond (ltb (suc s.trace) (length lens)) (begun (suc s.trace) (get_o
 
 -- Before the first record.
 unfoldable pub blank : Judge
-blank = record { marks = true; first = Accepted; far = Accepted; trace = 0; left = 0; times = no_times }
+blank = record { marks = true; first = Ok tt; far = Ok tt; trace = 0; left = 0; times = no_times }
 
 -- The first trace is opened.
 unfoldable pub started : List ℕ → Judge
@@ -81,45 +77,6 @@ stepped lens s f = let t = passed f s in cond (eqb t.left 0) (next lens (ended t
 unfoldable pub run : List ℕ → Judge → List FixRecord → Judge
 run lens s [] = s
 run lens s (f ∷ fs) = run lens (stepped lens s f) fs
-
--- ---- the machine in plain numbers, for the loop over the records
-
--- The number of a refusal; 0 where there is none.
-abbrev pub number_in : Checked → ℕ
-number_in Accepted = 0
-number_in (Refused e) = number_of e
-
--- Its trace likewise.
-abbrev pub trace_in : Checked → ℕ
-trace_in Accepted = 0
-trace_in (Refused e) = trace_of e
-
--- The refusals of a trace from their numbers.
-unfoldable pub checked_of : ℕ → ℕ → Checked
-checked_of n k =
-    cond (eqb n 11) (Refused (EmptyTrace k))
-    (cond (eqb n 12) (Refused (Coordinate k))
-    (cond (eqb n 13) (Refused (Timestamp k))
-    (cond (eqb n 14) (Refused (PartlyTimed k))
-    (cond (eqb n 15) (Refused (TimeOrder k))
-    (cond (eqb n 16) (Refused (CoordinateSize k)) Accepted)))))
-
--- Refusals by number and trace.
-unfoldable pub packed : Judge → Packed
-packed s = record {
-  marks = s.marks;
-  first = number_in s.first;
-  first_trace = trace_in s.first;
-  far = number_in s.far;
-  far_trace = trace_in s.far;
-  trace = s.trace;
-  left = s.left;
-  times = s.times;
-}
-
--- The way back.
-unfoldable pub unpacked : Packed → Judge
-unpacked p = record { marks = p.marks; first = checked_of p.first p.first_trace; far = checked_of p.far p.far_trace; trace = p.trace; left = p.left; times = p.times }
 
 -- ---- the verdict
 
@@ -143,6 +100,7 @@ unfoldable pub check_records : Config → List FixRecord → List ℕ → ℕ �
 check_records c fs lens labels cap columns marks floats words =
     first_of (check_config c) (check_tracks (xs_of fs) (ys_of fs) (times_of fs) (marks_of fs) lens labels cap (work_floats (length fs) columns marks floats) words)
 
--- Where a check refuses, no record is taken apart.
-unfoldable pub verdict_by : Checked → ℕ → Verdict
-verdict_by d n = record { checked = d; fixes = cond (is_refused d) 0 n }
+-- How many of n records are to be taken apart, or the refusal.
+unfoldable pub verdict_by : Checked → ℕ → Result ℕ Refusal
+verdict_by (Ok x) n = Ok n
+verdict_by (Err e) n = Err e

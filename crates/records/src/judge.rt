@@ -1,14 +1,17 @@
 // The checks of records before anything is written: a machine that takes them one by one, and what it says of them at the end, in the rules' order.
-ghost use Rattle.std.specs.Prelude.{◌≡◌, ◌&&◌, ◌-◌};
-ghost use Rattle.settings.specs.Checks.{refuse_if, first_of};
+ghost use Rattle.std.specs.Prelude.{◌≡◌, eqb};
 ghost use Rattle.trace.specs.Trace.{read_time};
-ghost use Rattle.records.specs.StepsJudge.{no_times as Judge·noTimes, with_time, times_checked, begun, passed, ended, next as Judge·next, started, stepped, contents as Judge·contents};
+ghost use Rattle.settings.specs.declared.refusal.Refusal.TheVariants.{EmptyTrace};
+ghost use Rattle.settings.specs.Checks.{refuse_if};
+ghost use Rattle.checks.specs.Traces.{check_fix_size};
+ghost use Rattle.records.specs.Records.{fix_of};
+ghost use Rattle.records.specs.StepsJudge.{no_times, with_time, times_checked, begun, passed, ended, next, started, stepped, contents};
 
 use crate::FixRecord;
-use settings::refusal::{Checked, Refusal};
+use settings::refusal::Refusal;
 
 // The times of the open trace so far: whether all are there, none is, and each is at most the next; the last mark and time.
-#[derive(Clone, Copy)]
+#[derive(Clone, Copy, Debug, PartialEq)]
 pub struct Times {
     pub timed: bool,
     pub untimed: bool,
@@ -19,205 +22,185 @@ pub struct Times {
 
 // What the records so far say. marks: each mark is 0 or 1. first: the first refusal of 11 to 15. far: the first of 16. trace: the open
 // trace. left: how many of its fixes are still to come.
-#[derive(Clone, Copy)]
+#[derive(Clone, Copy, Debug, PartialEq)]
 pub struct Judge {
     pub marks: bool,
-    pub first: Checked,
-    pub far: Checked,
+    pub first: Result<(), Refusal>,
+    pub far: Result<(), Refusal>,
     pub trace: usize,
     pub left: usize,
     pub times: Times,
 }
 
 // The time beside a mark, 0.0 where there is none.
+// Kept as it is: `time_at` of crate `checks` takes slice and index, so as not to read a value beside another mark; here the value comes with the record.
+#[tactic(auto, unfolding(trace::specs::Trace::read_time))]
 pub fn read_time(mark: u8, time: f64) -> f64
     ensures { result ≡ read_time mark time }
 {
-    if mark == 1 {
-        return time;
-    }
-    0.0
+    if mark == 1 { time } else { 0.0 }
 }
 
-fn refuse_if(b: bool, e: Refusal) -> Checked
-    ensures { result ≡ refuse_if b e }
-{
-    if b {
-        return Checked::Refused(e);
-    }
-    Checked::Accepted
-}
-
-// The first of two, and where that accepts, the second.
-fn first_of(a: Checked, b: Checked) -> Checked
-    ensures { result ≡ first_of a b }
-{
-    if settings::refusal::is_refused(a) {
-        return a;
-    }
-    b
-}
-
-fn both(a: bool, b: bool) -> bool
-    ensures { result ≡ a && b }
-{
-    if a {
-        return b;
-    }
-    false
-}
-
-// One less, down to 0.
-fn less(n: usize) -> usize
-    ensures { result ≡ n - 1 }
-{
-    if n == 0 {
-        return 0;
-    }
-    n - 1
-}
-
-fn no_times() -> Times
-    ensures { result ≡ Judge·noTimes }
-{
-    Times {
-        timed: true,
-        untimed: true,
-        ordered: true,
-        mark: 0,
-        time: 0.0,
-    }
-}
-
-// The next fix of the open trace.
-fn with_time(t: Times, f: FixRecord) -> Times
-    ensures { result ≡ with_time t f }
-{
-    Times {
-        timed: both(t.timed, f.mark == 1),
-        untimed: both(t.untimed, f.mark != 1),
-        ordered: both(
-            t.ordered,
-            !checks::fix::above(t.mark, t.time, f.mark, f.time),
-        ),
-        mark: f.mark,
-        time: read_time(f.mark, f.time),
-    }
-}
-
-// 14 and 15 of trace k.
-fn times_checked(k: usize, t: Times) -> Checked
-    ensures { result ≡ times_checked k t }
-{
-    first_of(
-        refuse_if(both(!t.timed, !t.untimed), Refusal::PartlyTimed(k)),
-        refuse_if(!t.ordered, Refusal::TimeOrder(k)),
-    )
-}
-
-// Trace k of n fixes is opened: 11.
-fn begin(s: Judge, k: usize, n: usize) -> Judge
-    ensures { result ≡ begun k n s }
-{
-    let first = s.first;
-    let far = s.far;
-    Judge {
-        marks: s.marks,
-        first: first_of(first, refuse_if(n == 0, Refusal::EmptyTrace(k))),
-        far: far,
-        trace: k,
-        left: n,
-        times: no_times(),
-    }
-}
-
-// A fix of the open trace: 12, 13, and 16 apart.
-fn pass(s: Judge, f: FixRecord) -> Judge
-    ensures { result ≡ passed f s }
-{
-    let first = s.first;
-    let far = s.far;
-    let times = s.times;
-    let p = f.at;
-    let k = s.trace;
-    Judge {
-        marks: both(s.marks, f.mark <= 1),
-        first: first_of(first, checks::fix::check_fix(k, p, f.mark, f.time)),
-        far: first_of(
-            far,
-            refuse_if(!distance::in_limit(p), Refusal::CoordinateSize(k)),
-        ),
-        trace: k,
-        left: less(s.left),
-        times: with_time(times, f),
-    }
-}
-
-// The open trace is at its end: 14, 15.
-fn end(s: Judge) -> Judge
-    ensures { result ≡ ended s }
-{
-    let first = s.first;
-    let far = s.far;
-    let times = s.times;
-    Judge {
-        marks: s.marks,
-        first: first_of(first, times_checked(s.trace, times)),
-        far: far,
-        trace: s.trace,
-        left: s.left,
-        times: times,
-    }
-}
-
-// The trace after the open one, where there is one.
-fn next(s: Judge, lens: &[u32]) -> Judge
-    ensures { result ≡ Judge·next lens.now s }
-{
-    let k = s.trace;
-    if k < lens.len() {
-        let j = k + 1;
-        if j < lens.len() {
-            return begin(s, j, lens[j] as usize);
+impl Times {
+    // Before the first fix.
+    #[tactic(auto, unfolding(crate::specs::StepsJudge::no_times))]
+    fn none() -> Times
+        ensures { result ≡ no_times }
+    {
+        Times {
+            timed: true,
+            untimed: true,
+            ordered: true,
+            mark: 0,
+            time: 0.0,
         }
     }
-    s
-}
 
-// Before the first record.
-pub fn start(lens: &[u32]) -> Judge
-    ensures { result ≡ started lens.now }
-{
-    let s = Judge {
-        marks: true,
-        first: Checked::Accepted,
-        far: Checked::Accepted,
-        trace: 0,
-        left: 0,
-        times: no_times(),
-    };
-    if lens.len() == 0 {
-        return begin(s, 0, 0);
+    // The next fix of the open trace.
+    #[tactic(auto, unfolding(crate::specs::StepsJudge::with_time))]
+    fn with(self, f: FixRecord) -> Times
+        ensures { result ≡ with_time self f }
+    {
+        Times {
+            timed: self.timed && f.mark == 1,
+            untimed: self.untimed && f.mark != 1,
+            ordered: self.ordered && !checks::fix::above(self.mark, self.time, f.mark, f.time),
+            mark: f.mark,
+            time: read_time(f.mark, f.time),
+        }
     }
-    begin(s, 0, lens[0] as usize)
-}
 
-// One record.
-pub fn step(s: Judge, f: FixRecord, lens: &[u32]) -> Judge
-    ensures { result ≡ stepped lens.now s f }
-{
-    let t = pass(s, f);
-    if t.left == 0 {
-        return next(end(t), lens);
+    // 14 and 15 of trace k.
+    #[tactic(auto, unfolding(crate::specs::StepsJudge::times_checked, settings::proofs::Turns::turns))]
+    fn checked(self, k: usize) -> Result<(), Refusal>
+        ensures { result ≡ times_checked k self }
+    {
+        if !self.timed && !self.untimed {
+            return Err(Refusal::PartlyTimed(k));
+        }
+        if !self.ordered {
+            return Err(Refusal::TimeOrder(k));
+        }
+        Ok(())
     }
-    t
 }
 
-// 17, then 11 to 15, then 16.
-pub fn contents(s: Judge) -> Checked
-    ensures { result ≡ Judge·contents s }
+// 16 of a fix of trace k.
+#[tactic(auto, unfolding(checks::specs::Traces::check_fix_size, settings::proofs::Turns::turns))]
+fn check_size(k: usize, f: FixRecord) -> Result<(), Refusal>
+    ensures { result ≡ check_fix_size k (fix_of f) }
 {
-    let first = s.first;
-    let far = s.far;
-    first_of(refuse_if(!s.marks, Refusal::TimeMark), first_of(first, far))
+    if !distance::in_limit(f.at) {
+        return Err(Refusal::CoordinateSize(k));
+    }
+    Ok(())
+}
+
+// 11 of trace k of n fixes.
+#[tactic(auto, unfolding(settings::proofs::Turns::turns))]
+fn check_empty(k: usize, n: usize) -> Result<(), Refusal>
+    ensures { result ≡ refuse_if (eqb n 0) (EmptyTrace k) }
+{
+    if n == 0 {
+        return Err(Refusal::EmptyTrace(k));
+    }
+    Ok(())
+}
+
+impl Judge {
+    // Trace k of n fixes is opened: 11.
+    #[tactic(auto, using(settings::proofs::Turns::first_is), unfolding(crate::specs::StepsJudge::begun))]
+    fn begin(self, k: usize, n: usize) -> Judge
+        ensures { result ≡ begun k n self }
+    {
+        Judge {
+            first: self.first.and(check_empty(k, n)),
+            trace: k,
+            left: n,
+            times: Times::none(),
+            ..self
+        }
+    }
+
+    // A fix of the open trace: 12, 13, and 16 apart.
+    #[tactic(auto, using(settings::proofs::Turns::first_is), unfolding(crate::specs::StepsJudge::passed))]
+    fn pass(self, f: FixRecord) -> Judge
+        ensures { result ≡ passed f self }
+    {
+        let k = self.trace;
+        Judge {
+            marks: self.marks && f.mark <= 1,
+            first: self
+                .first
+                .and(checks::fix::check_fix(k, f.at, f.mark, f.time)),
+            far: self.far.and(check_size(k, f)),
+            left: self.left.saturating_sub(1),
+            times: self.times.with(f),
+            ..self
+        }
+    }
+
+    // The open trace is at its end: 14, 15.
+    #[tactic(auto, using(settings::proofs::Turns::first_is), unfolding(crate::specs::StepsJudge::ended))]
+    fn end(self) -> Judge
+        ensures { result ≡ ended self }
+    {
+        Judge {
+            first: self.first.and(self.times.checked(self.trace)),
+            ..self
+        }
+    }
+
+    // The trace after the open one, where there is one.
+    #[tactic(auto, unfolding(crate::specs::StepsJudge::next))]
+    fn next(self, lens: &[u32]) -> Judge
+        ensures { result ≡ next lens.now self }
+    {
+        let k = self.trace;
+        if k < lens.len() && k + 1 < lens.len() {
+            return self.begin(k + 1, lens[k + 1] as usize);
+        }
+        self
+    }
+
+    // Before the first record.
+    #[tactic(auto, unfolding(crate::specs::StepsJudge::started, crate::specs::StepsJudge::blank))]
+    pub fn start(lens: &[u32]) -> Judge
+        ensures { result ≡ started lens.now }
+    {
+        let blank = Judge {
+            marks: true,
+            first: Ok(()),
+            far: Ok(()),
+            trace: 0,
+            left: 0,
+            times: Times::none(),
+        };
+        let n = if lens.is_empty() { 0 } else { lens[0] };
+        blank.begin(0, n as usize)
+    }
+
+    // One record.
+    #[tactic(auto, unfolding(crate::specs::StepsJudge::stepped))]
+    pub fn step(self, f: FixRecord, lens: &[u32]) -> Judge
+        ensures { result ≡ stepped lens.now self f }
+    {
+        let t = self.pass(f);
+        if t.left == 0 {
+            return t.end().next(lens);
+        }
+        t
+    }
+
+    // 17, then 11 to 15, then 16.
+    #[tactic(auto, unfolding(crate::specs::StepsJudge::contents, settings::proofs::Turns::turns))]
+    pub fn contents(self) -> Result<(), Refusal>
+        ensures { result ≡ contents self }
+    {
+        if !self.marks {
+            return Err(Refusal::TimeMark);
+        }
+        self.first?;
+        self.far
+    }
 }

@@ -1,71 +1,29 @@
 // The verdict on records, before anything is written: the settings and 7 to 10 by the lengths of the slices, 11 to 17 by what the machine says.
 ghost use Rattle.std.specs.Prelude.{◌≡◌};
 ghost use Rattle.records.specs.Records.{work_floats};
-ghost use Rattle.records.specs.StepsJudge.{unpacked, checks_from, verdict_by};
+ghost use Rattle.records.specs.StepsJudge.{checks_from, verdict_by};
 
 use crate::judge::Judge;
-use crate::packed::Packed;
-use infostop::model::Infostop;
-use settings::refusal::Checked;
-
-// The first refusal of the settings and of 7 to 17, and how many records are to be taken apart, none where there is one.
-#[derive(Clone, Copy)]
-pub struct Verdict {
-    pub checked: Checked,
-    pub fixes: usize,
-}
+use settings::config::Config;
+use settings::refusal::Refusal;
 
 // How many numbers the work slice of floats has for n records: none where columns or marks, of these lengths, are too short.
+#[tactic(auto, using(crate::proofs::Steps::no_columns, crate::proofs::Steps::no_marks, crate::proofs::Steps::room), unfolding(crate::specs::Records::work_floats))]
 fn work_floats(n: usize, columns: usize, marks: usize, floats: usize) -> usize
     ensures { result ≡ work_floats n columns marks floats }
 {
-    if columns / 3 < n {
-        return 0;
-    }
-    if marks < n {
+    if columns / 3 < n || marks < n {
         return 0;
     }
     floats
 }
 
-// The settings; 7 to 10 of n records and the lent slices, by their lengths; then 11 to 17, by what the machine says of the records.
-fn checks(
-    model: Infostop,
-    s: Judge,
-    n: usize,
-    lens: &[u32],
-    labels: usize,
-    places: usize,
-    columns: usize,
-    marks: usize,
-    floats: usize,
-    words: usize,
-) -> Checked
-    ensures { result ≡ checks_from model.config s n lens.now labels places columns marks floats words }
-{
-    let config = model.config;
-    let a = settings::config::check_config(config);
-    if settings::refusal::is_refused(a) {
-        return a;
-    }
-    let b = checks::slices::check_lengths(lens, n, n, n, n, labels);
-    if settings::refusal::is_refused(b) {
-        return b;
-    }
-    let c = checks::slices::check_counts(lens.len(), n, places);
-    if settings::refusal::is_refused(c) {
-        return c;
-    }
-    let d = checks::slices::check_work(n, places, work_floats(n, columns, marks, floats), words);
-    if settings::refusal::is_refused(d) {
-        return d;
-    }
-    crate::judge::contents(s)
-}
-
+// How many records are to be taken apart, n of them, or the first refusal: the settings; 7 to 10 by the lengths of the lent slices; then 11 to 17, by what the
+// machine says of the records.
+#[tactic(auto, using(checks::proofs::Lengths::counts_few), unfolding(crate::specs::StepsJudge::checks_from, crate::specs::StepsJudge::verdict_by, settings::proofs::Turns::turns))]
 pub fn decide(
-    model: Infostop,
-    p: Packed,
+    config: Config,
+    judge: Judge,
     n: usize,
     lens: &[u32],
     labels: usize,
@@ -74,28 +32,13 @@ pub fn decide(
     marks: usize,
     floats: usize,
     words: usize,
-) -> Verdict
-    ensures { result ≡ verdict_by (checks_from model.config (unpacked p) n lens.now labels places columns marks floats words) n }
+) -> Result<usize, Refusal>
+    ensures { result ≡ verdict_by (checks_from config judge n lens.now labels places columns marks floats words) n }
 {
-    let s = crate::packed::unpack(p);
-    let checked = checks(
-        model, s, n, lens, labels, places, columns, marks, floats, words,
-    );
-    if settings::refusal::is_refused(checked) {
-        return Verdict {
-            checked: checked,
-            fixes: 0,
-        };
-    }
-    Verdict {
-        checked: checked,
-        fixes: n,
-    }
-}
-
-// How many records are to be taken apart.
-pub fn to_take(v: Verdict) -> usize
-    ensures { result ≡ v.fixes }
-{
-    v.fixes
+    settings::config::check_config(config)?;
+    checks::slices::check_lengths(lens, n, n, n, n, labels)?;
+    checks::slices::check_counts(lens.len(), n, places)?;
+    checks::slices::check_work(n, places, work_floats(n, columns, marks, floats), words)?;
+    judge.contents()?;
+    Ok(n)
 }

@@ -1,68 +1,42 @@
--- Laws of the digits of a text.
-use mathlib.Core.Path.{◌≡◌, refl}
-use mathlib.Core.Bool.{Bool, true, false, ◌&&◌, false≢true}
-use mathlib.Core.List.{List}
-use Prim.Native.Nat.{ℕ, ◌+◌, ◌-◌, ◌*◌, ◌^◌, ◌≤◌, ◌<◌}
-use native.Mathlib.Numerals.{add-one}
-use native.Mathlib.Omega.{arith}
-use borrow.Author.Tests.{leb-true, lt-ltb, le-ltb}
-use lib.Dec.{leb}
-use lib.ListN.{length, drop, get_or, drop_of_length-le}
-use lib.Seq.{drop-cons}
+-- Laws of the digits of a text: the bytes before them, how many they are, and what they make, in std's words.
+use Rattle.std.proofs.Common.{◌≡◌, ℕ, suc, ◌+◌, Bool, true, false, not, cond, List, [], ◌∷◌, length, ◌∙◌, refl}
+use Rattle.std.proofs.Math.Numerals.{one-add}
+use Rattle.std.specs.List.{prefix_len, take_while, fold}
+use Rattle.std.proofs.lemmas.List.Folds.{length-prefix_len}
+use Rattle.std.proofs.lemmas.List.Sums.{take_while-cons}
+use Rattle.std.specs.Char.{is_ascii_digit}
 use Rattle.replay.specs.Numbers.{is_digit, with_digit, before, digits, value}
 
-both : (s t : Bool) → (s && t) ≡ true → (s ≡ true) × (t ≡ true)
-both true t e = (refl, e)
-both false t e = absurd (false≢true e)
+passed : (d : Bool) (n : ℕ) → cond (not d) (1 + n) 0 ≡ cond d 0 (suc n)
+passed true n = refl
+passed false n = one-add n
 
-pub digit_range : (b : ℕ) → is_digit b ≡ true → (48 ≤ b) × (b ≤ 57)
-digit_range b e = let h = both (leb 48 b) (leb b 57) e in (leb-true 48 b h.0, leb-true b 57 h.1)
+-- how many bytes stand before the first digit
+before_len : (s : List ℕ) → prefix_len (λ b. not (is_ascii_digit b)) s ≡ before s
+unfolding before
+before_len [] = refl
+before_len (b ∷ s) = rw (before_len s) (passed (is_digit b) (before s))
 
--- n with one more digit, where it fits and where not
-pub digit_fits : (n b : ℕ) → n * 10 + (b - 48) < 2 ^ 64 → n * 10 + (b - 48) ≡ with_digit n b
-unfolding with_digit
-digit_fits n b h = rw (lt-ltb (n * 10 + (b - 48)) (2 ^ 64) h)
+pub before_is : (s : List ℕ) → length (take_while (λ b. not (is_ascii_digit b)) s) ≡ before s
+before_is s = length-prefix_len _ s ∙ before_len s
 
-pub digit_over : (n b : ℕ) → 2 ^ 64 ≤ n * 10 + (b - 48) → 0 ≡ with_digit n b
-unfolding with_digit
-digit_over n b h = rw (le-ltb (n * 10 + (b - 48)) (2 ^ 64) h)
+-- how many digits stand at the start, and the number that they make
+counted : (d : Bool) (n : ℕ) → cond d (1 + n) 0 ≡ cond d (suc n) 0
+counted true n = one-add n
+counted false n = refl
 
--- one byte passed
-module _ (t : List ℕ) (i : ℕ) (h : i < length t) where
-  pub before_on : is_digit (get_or t i 0) ≡ false → i + 1 + before (drop (i + 1) t) ≡ i + before (drop i t)
-  unfolding before
-  before_on e = rw (add-one i, drop-cons t i 0 h, e) (omega arith)
+digits_len : (s : List ℕ) → prefix_len (λ b. is_ascii_digit b) s ≡ digits s
+unfolding digits
+digits_len [] = refl
+digits_len (b ∷ s) = rw (digits_len s) (counted (is_digit b) (digits s))
 
-  pub before_stop : is_digit (get_or t i 0) ≡ true → i ≡ i + before (drop i t)
-  unfolding before
-  before_stop e = rw (drop-cons t i 0 h, e) (omega arith)
+pub digits_is : (s : List ℕ) → length (take_while (λ b. is_ascii_digit b) s) ≡ digits s
+digits_is s = length-prefix_len _ s ∙ digits_len s
 
-  pub digits_on : is_digit (get_or t i 0) ≡ true → i + 1 + digits (drop (i + 1) t) ≡ i + digits (drop i t)
-  unfolding digits
-  digits_on e = rw (add-one i, drop-cons t i 0 h, e) (omega arith)
-
-  pub digits_stop : is_digit (get_or t i 0) ≡ false → i ≡ i + digits (drop i t)
-  unfolding digits
-  digits_stop e = rw (drop-cons t i 0 h, e) (omega arith)
-
-  pub value_on : (n : ℕ) → is_digit (get_or t i 0) ≡ true → value (with_digit n (get_or t i 0)) (drop (i + 1) t) ≡ value n (drop i t)
-  unfolding value
-  value_on n e = rw (add-one i, drop-cons t i 0 h, e)
-
-  pub value_stop : (n : ℕ) → is_digit (get_or t i 0) ≡ false → n ≡ value n (drop i t)
-  unfolding value
-  value_stop n e = rw (drop-cons t i 0 h, e)
-
--- past the end
-module _ (t : List ℕ) (i : ℕ) (h : length t ≤ i) where
-  pub before_end : i ≡ i + before (drop i t)
-  unfolding before
-  before_end = rw (drop_of_length-le t h) (omega arith)
-
-  pub digits_end : i ≡ i + digits (drop i t)
-  unfolding digits
-  digits_end = rw (drop_of_length-le t h) (omega arith)
-
-  pub value_end : (n : ℕ) → n ≡ value n (drop i t)
-  unfolding value
-  value_end n = rw (drop_of_length-le t h)
+pub value_is : (n : ℕ) (s : List ℕ) → fold (λ n b. with_digit n b) n (take_while (λ b. is_ascii_digit b) s) ≡ value n s
+unfolding value
+value_is n [] = refl
+value_is n (b ∷ s) =
+    rw (take_while-cons (λ b. is_ascii_digit b) b s)
+    (elim (is_digit b) as (λ d. fold (λ n b. with_digit n b) n (cond d (b ∷ take_while (λ b. is_ascii_digit b) s) []) ≡ cond d (value (with_digit n b) s) n)
+    [ true ↦ value_is (with_digit n b) s | false ↦ refl ])

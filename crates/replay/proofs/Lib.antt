@@ -1,3 +1,4 @@
 -- Lemmas that belong to no one function.
 pub mod Digits
-pub mod All
+pub mod Bits
+pub mod Past

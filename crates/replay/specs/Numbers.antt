@@ -1,5 +1,6 @@
 -- Unsigned decimal numbers in a text of bytes. Definitions only.
-use Rattle.std.specs.Prelude.{ℕ, zero, suc, ◌+◌, ◌-◌, ◌*◌, ◌^◌, Bool, ◌&&◌, cond, List, [], ◌∷◌, drop, leb, ltb}
+use Rattle.std.specs.Prelude.{ℕ, zero, suc, ◌+◌, ◌-◌, ◌*◌, ◌^◌, Bool, ◌&&◌, cond, List, [], ◌∷◌, take, drop, leb, ltb}
+use Rattle.replay.specs.declared.Numbers.{Numbers}
 
 -- A byte from '0' to '9'.
 abbrev pub is_digit : ℕ → Bool
@@ -42,3 +43,11 @@ skip t i (suc n) = after t (skip t i n)
 unfoldable pub number_at : List ℕ → ℕ → ℕ → ℕ
 unfolding skip
 number_at t i n = value_at t (skip t i n)
+
+-- A reader that has passed n numbers.
+abbrev pub past : Numbers → ℕ → Numbers
+past s n = record s { at = skip s.text.now s.at n }
+
+-- The text that is written at the place i: the next number says how many bytes it has, and one byte stands between.
+abbrev pub text_at : List ℕ → ℕ → List ℕ
+text_at t i = take (value_at t i) (drop (after t i + 1) t)

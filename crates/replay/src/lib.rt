@@ -1,101 +1,182 @@
-// For the programs that replay recorded answers: unsigned decimal numbers read from a text, and answers printed.
+// For the programs that replay recorded answers: lists of cases read, as unsigned decimal numbers and texts, and answers printed.
 #![tactic(auto)]
 
-ghost use Rattle.std.specs.Prelude.{◌≡◌, true, ◌+◌, length, drop, replicate};
+ghost use Rattle.std.specs.Prelude.{◌≡◌, ◌+◌, not, ◌≤◌, length, take, drop, IfSome};
+ghost use Rattle.std.specs.List.{take_while, fold, list_all};
+ghost use Rattle.std.specs.Char.{is_ascii_digit};
 ghost use Rattle.std.specs.Float.{binary64};
 ghost use Rattle.std.specs.Float.Ieee.{of_bits, to_bits};
-ghost use Rattle.replay.specs.Same.{all_floats, same_word, all_words, all_bytes};
-ghost use Rattle.replay.specs.Numbers.{is_digit, with_digit, digits, value, start, value_at, after};
+ghost use Rattle.float.specs.Binary64.{same_bits};
+ghost use Rattle.replay.specs.Numbers.{with_digit, value_at, after, past, text_at};
 
 // Where a program reads its input and prints its output.
-pub const STDIN_FILENO: i32 = 0;
+const STDIN_FILENO: i32 = 0;
 
 pub const STDOUT_FILENO: i32 = 1;
 
 // Room for a list: 1,000,000 zeros. The length is said beside them, since lending the array as a slice asks for it.
-pub fn room() -> [u8; 1000000]
-    ensures { (1000000 ≡ length result) × (result ≡ replicate 1000000 0) }
+fn room() -> [u8; 1000000]
+    ensures { 1000000 ≡ length result }
 {
     [0; 1000000]
 }
 
-// A number, and the place after it.
-#[derive(Clone, Copy)]
-pub struct Read {
-    pub value: u64,
-    pub next: usize,
-}
-
-fn is_digit(b: u8) -> bool
-    ensures { result ≡ is_digit b }
-{
-    if 48 <= b { b <= 57 } else { false }
+// Reads a list of unsigned decimal numbers, and texts between them: the list, and the place from which on it is read.
+#[derive(Debug, Drop)]
+pub struct Numbers<'a> {
+    pub text: &'a [u8],
+    pub at: usize,
 }
 
 // n with the digit b after it, or 0 where that takes more than 64 bits.
-#[tactic(auto, using(crate::proofs::Digits::digit_fits, crate::proofs::Digits::digit_over))]
+#[tactic(auto, unfolding(crate::specs::Numbers::with_digit))]
 fn with_digit(n: u64, b: u8) -> u64
-    requires { is_digit b ≡ true }
     ensures { result ≡ with_digit n b }
 {
-    let d = (b - 48) as u64;
-    if n < 1844674407370955161 {
-        return n * 10 + d;
-    }
-    if 1844674407370955161 < n {
-        return 0;
-    }
-    if d < 6 { n * 10 + d } else { 0 }
+    let d = u64::from(b.saturating_sub(b'0'));
+    n.checked_mul(10)
+        .and_then(|m| m.checked_add(d))
+        .unwrap_or(0)
 }
 
-// The place of the first digit at or after `at`.
-fn first_digit(text: &[u8], at: usize) -> usize
-    ensures { result ≡ start text.now at }
+// How many bytes stand before the first digit.
+fn bytes_before(s: &[u8]) -> usize
+    ensures { result ≡ length (take_while (λ b. not (is_ascii_digit b)) s.now) }
 {
-    let mut i = at;
-    while i < text.len() {
-        if is_digit(text[i]) {
-            return i;
-        }
-        i += 1;
-    }
-    i
+    s.iter().take_while(|b| !b.is_ascii_digit()).count()
 }
 
-// The number whose digits stand at `at`.
-fn number_at(text: &[u8], at: usize) -> Read
-    ensures { (result.value ≡ value 0 (drop at text.now)) × (result.next ≡ at + digits (drop at text.now)) }
+// How many digits stand in front.
+fn digits_in(s: &[u8]) -> usize
+    ensures { result ≡ length (take_while (λ b. is_ascii_digit b) s.now) }
 {
-    let mut n: u64 = 0;
-    let mut i = at;
-    while i < text.len() {
-        if !is_digit(text[i]) {
-            return Read { value: n, next: i };
-        }
-        n = with_digit(n, text[i]);
-        i += 1;
-    }
-    Read { value: n, next: i }
+    s.iter().take_while(|b| b.is_ascii_digit()).count()
 }
 
-// The next number of the text at or after `at`: 0 at the end of the text, or where it takes more than 64 bits.
-pub fn number(text: &[u8], at: usize) -> Read
-    ensures { (result.value ≡ value_at text.now at) × (result.next ≡ after text.now at) }
+// The number that the digits in front make.
+fn number_in(s: &[u8]) -> u64
+    ensures { result ≡ fold (λ n b. with_digit n b) 0 (take_while (λ b. is_ascii_digit b) s.now) }
 {
-    number_at(text, first_digit(text, at))
+    s.iter()
+        .take_while(|b| b.is_ascii_digit())
+        .fold(0, |n, &b| with_digit(n, b))
+}
+
+// What stands from `at` on.
+fn rest(text: &[u8], at: usize) -> &[u8]
+    ensures { result.now ≡ drop at text.now }
+{
+    text.get(at..).unwrap_or(&[])
+}
+
+// The n bytes behind the byte at `at`.
+fn text_at(list: &[u8], at: usize, n: usize) -> Option<&[u8]>
+    ensures { IfSome result (λ s. (s.now ≡ take n (drop (at + 1) list.now)) × (at + 1 + n ≤ length list.now) × (length s.now ≡ n)) }
+{
+    list.get(at..)?.get(1..)?.get(..n)
+}
+
+impl<'a> Numbers<'a> {
+    // The next number: 0 at the end of the text, or where it takes more than 64 bits.
+    #[tactic(auto, using(crate::proofs::Digits::before_is, crate::proofs::Digits::digits_is, crate::proofs::Digits::value_is), unfolding(crate::specs::Numbers::skip))]
+    pub fn next_number(&mut self) -> u64
+        ensures value { result ≡ value_at self.old.text.now self.old.at }
+        ensures place { self.new ≡ past self.old 1 }
+    {
+        self.at += bytes_before(rest(self.text, self.at));
+        let digits = rest(self.text, self.at);
+        self.at += digits_in(digits);
+        number_in(digits)
+    }
+
+    // The next number, as a length or an index.
+    pub fn next_size(&mut self) -> usize
+        ensures value { result ≡ value_at self.old.text.now self.old.at }
+        ensures place { self.new ≡ past self.old 1 }
+    {
+        self.next_number() as usize
+    }
+
+    // The next number, as the bits of a float.
+    pub fn next_float(&mut self) -> f64
+        ensures value { result ≡ of_bits binary64 (value_at self.old.text.now self.old.at) }
+        ensures place { self.new ≡ past self.old 1 }
+    {
+        float_of_bits(self.next_number())
+    }
+
+    // The next text: its number of bytes, a line feed, and the bytes. None where the list has fewer.
+    #[tactic(auto, unfolding(crate::specs::Numbers::skip))]
+    pub fn next_text(&mut self) -> Option<&'a [u8]>
+        ensures text { self.new.text ≡ self.old.text }
+        ensures value { IfSome result (λ s. s.now ≡ text_at self.old.text.now self.old.at) }
+        ensures place { IfSome result (λ s. self.new.at ≡ after self.old.text.now self.old.at + 1 + length s.now) }
+    {
+        let n = self.next_size();
+        let text = text_at(self.text, self.at, n)?;
+        self.at += 1 + n;
+        Some(text)
+    }
+}
+
+// Lets each case of a list be answered. The list says first how many it has.
+fn answer_all<F: FnMut(&mut Numbers)>(text: &[u8], mut answer: F)
+    requires { F.IsAlwaysCallable answer }
+{
+    let mut list = Numbers { text, at: 0 };
+    for _ in 0..list.next_number() {
+        answer(&mut list);
+    }
+}
+
+// Reads a list from standard input, and lets each case of it be answered.
+pub fn each_case<F: FnMut(&mut Numbers)>(answer: F)
+    requires { F.IsAlwaysCallable answer }
+{
+    let mut text = room();
+    let n = io::read_full(STDIN_FILENO, &mut text);
+    answer_all(&text[..n], answer);
 }
 
 // The value with these bits; every NaN pattern is NaN.
+#[tactic(auto, using(crate::proofs::Bits::nan_of_bits, std::proofs::lemmas::Float::not_nan_f64_bits))]
 pub fn float_of_bits(bits: u64) -> f64
     ensures { result ≡ of_bits binary64 bits }
 {
     if 0x7ff0_0000_0000_0000 < bits % 0x8000_0000_0000_0000 {
-        return 0.0 / 0.0;
+        f64::NAN
+    } else {
+        f64::from_bits(bits)
     }
-    f64::from_bits(bits)
 }
 
-// Prints n.
+// The bits of x, of every NaN the same.
+#[tactic(auto, using(crate::proofs::Bits::bits_of_nan))]
+pub fn bits_of(x: f64) -> u64
+    ensures { result ≡ to_bits binary64 x }
+{
+    if x.is_nan() {
+        0x7ff8_0000_0000_0000
+    } else {
+        x.to_bits()
+    }
+}
+
+// Whether two floats are the same, bit for bit.
+#[tactic(auto, unfolding(float::specs::Binary64::same_bits))]
+pub fn same_float(x: f64, y: f64) -> bool
+    ensures { result ≡ same_bits x y }
+{
+    bits_of(x) == bits_of(y)
+}
+
+// Whether all floats are x, bit for bit.
+pub fn all_floats(s: &[f64], x: f64) -> bool
+    ensures { result ≡ list_all (λ y. same_bits y x) s.now }
+{
+    s.iter().all(|&y| same_float(y, x))
+}
+
 pub fn print_number(n: u64) {
     io::print_decimal(STDOUT_FILENO, n);
 }
@@ -109,69 +190,9 @@ pub fn print_label(n: i32) {
     }
 }
 
-// The bits of x, of every NaN the same.
-pub fn bits_of(x: f64) -> u64
-    ensures { result ≡ to_bits binary64 x }
-{
-    if x != x {
-        return 9221120237041090560;
-    }
-    f64::to_bits(x)
-}
-
 // Prints the bits of x.
 pub fn print_float(x: f64) {
     print_number(bits_of(x));
-}
-
-// Whether all floats are x, bit for bit.
-pub fn all_floats(s: &[f64], x: f64) -> bool
-    ensures { result ≡ all_floats x s.now }
-{
-    let bits = bits_of(x);
-    let mut i = 0;
-    while i < s.len() {
-        if bits_of(s[i]) != bits {
-            return false;
-        }
-        i += 1;
-    }
-    true
-}
-
-// Whether two words are equal.
-pub fn same_word(a: i32, b: i32) -> bool
-    ensures { result ≡ same_word a b }
-{
-    a == b
-}
-
-// Whether all words are w.
-pub fn all_words(s: &[i32], w: i32) -> bool
-    ensures { result ≡ all_words w s.now }
-{
-    let mut i = 0;
-    while i < s.len() {
-        if !same_word(s[i], w) {
-            return false;
-        }
-        i += 1;
-    }
-    true
-}
-
-// Whether all bytes are b.
-pub fn all_bytes(s: &[u8], b: u8) -> bool
-    ensures { result ≡ all_bytes b s.now }
-{
-    let mut i = 0;
-    while i < s.len() {
-        if s[i] != b {
-            return false;
-        }
-        i += 1;
-    }
-    true
 }
 
 pub fn space() {
@@ -182,22 +203,28 @@ pub fn line_end() {
     io::write_all(STDOUT_FILENO, b"\n");
 }
 
-// Prints each label behind a space.
-pub fn print_labels(labels: &[i32]) {
-    let mut i = 0;
-    while i < labels.len() {
+// Prints each item behind a space.
+pub fn print_each<T: Copy, F: Fn(T)>(items: &[T], print: F)
+    requires { F.IsAlwaysCallable print }
+{
+    for &item in items {
         space();
-        print_label(labels[i]);
-        i += 1;
+        print(item);
+    }
+}
+
+// Prints the bits of x and y of each point, each behind a space.
+pub fn print_points(xs: &[f64], ys: &[f64]) {
+    for (&x, &y) in xs.iter().zip(ys) {
+        space();
+        print_float(x);
+        space();
+        print_float(y);
     }
 }
 
 // Prints 1 where b holds, else 0, behind a space.
 pub fn print_flag(b: bool) {
     space();
-    if b {
-        print_number(1);
-    } else {
-        print_number(0);
-    }
+    print_number(u64::from(b));
 }

@@ -1,153 +1,112 @@
-// For the programs that run fits: settings, trace lengths and fixes, read from a list of unsigned decimal numbers, and a refusal printed.
+// For the programs that run fits: settings, trace lengths and fixes, read from a list of cases, and a refusal printed.
 #![tactic(auto)]
 
-ghost use Rattle.std.specs.Prelude.{◌≡◌, ◌+◌, ◌≤◌, min, set};
-ghost use Rattle.std.specs.Float.{binary64};
-ghost use Rattle.std.specs.Float.Ieee.{of_bits};
+ghost use Rattle.std.specs.Prelude.{◌≡◌, min, length, set};
 ghost use Rattle.trace.specs.Trace.{total};
-ghost use Rattle.replay.specs.Numbers.{skip};
+ghost use Rattle.replay.specs.Numbers.{value_at, past};
 ghost use Rattle.replay_case.specs.Case.{settings_at, length_of, mark_of, LensRead, FixesRead};
 
+use replay::Numbers;
 use settings::config::Config;
 use settings::refusal::Refusal;
 
-// Settings, and the place after them.
-#[derive(Clone, Copy)]
-pub struct Settings {
-    pub config: Config,
-    pub next: usize,
-}
-
 // Reads `r1 r2 single stay gap size resolution seed`, floats as their bits.
-pub fn read_settings(text: &[u8], at: usize) -> Settings
-    ensures { (result.config ≡ settings_at text.now at) × (result.next ≡ skip text.now at 8) }
+#[tactic(auto, unfolding(crate::specs::Case::settings_at, crate::specs::Case::float_at, replay::specs::Numbers::number_at, replay::specs::Numbers::skip))]
+pub fn read_settings(list: &mut Numbers) -> Config
+    ensures value { result ≡ settings_at list.old.text.now list.old.at }
+    ensures place { list.new ≡ past list.old 8 }
 {
-    let r1 = replay::number(text, at);
-    let r2 = replay::number(text, r1.next);
-    let single = replay::number(text, r2.next);
-    let stay = replay::number(text, single.next);
-    let gap = replay::number(text, stay.next);
-    let size = replay::number(text, gap.next);
-    let resolution = replay::number(text, size.next);
-    let seed = replay::number(text, resolution.next);
-    Settings {
-        config: Config {
-            r1: replay::float_of_bits(r1.value),
-            r2: replay::float_of_bits(r2.value),
-            label_singleton: single.value == 1,
-            min_staying_time: replay::float_of_bits(stay.value),
-            max_time_between: replay::float_of_bits(gap.value),
-            min_size: size.value as usize,
-            min_spatial_resolution: replay::float_of_bits(resolution.value),
-            seed: seed.value,
-        },
-        next: seed.next,
+    Config {
+        r1: list.next_float(),
+        r2: list.next_float(),
+        label_singleton: list.next_number() == 1,
+        min_staying_time: list.next_float(),
+        max_time_between: list.next_float(),
+        min_size: list.next_size(),
+        min_spatial_resolution: list.next_float(),
+        seed: list.next_number(),
     }
 }
 
 fn length_of(n: u64) -> u32
     ensures { result ≡ length_of n }
 {
-    if n <= 4294967295 {
-        n as u32
-    } else {
-        4294967295
-    }
-}
-
-// Reads as many trace lengths as the slice is long, and hands back the place after them.
-pub fn read_lens(text: &[u8], at: usize, lens: &mut [u32]) -> usize
-    ensures { LensRead text.now at lens.old lens.new result }
-{
-    let mut next = at;
-    let mut k = 0;
-    while k < lens.len() {
-        let n = replay::number(text, next);
-        lens[k] = length_of(n.value);
-        next = n.next;
-        k += 1;
-    }
-    next
-}
-
-// One more length.
-fn add_length(count: usize, len: u32) -> usize
-    requires { count ≤ 65537 }
-    ensures { result ≡ min (count + len) 65537 }
-{
-    let sum = count + len as usize;
-    if sum <= 65537 { sum } else { 65537 }
-}
-
-// The number of fixes of traces of these lengths: 65,537 for every larger one, since no fit takes so many.
-pub fn fix_count(lens: &[u32]) -> usize
-    ensures { result ≡ min (total lens.now) 65537 }
-{
-    let mut count = 0;
-    let mut k = 0;
-    while k < lens.len() {
-        count = add_length(count, lens[k]);
-        k += 1;
-    }
-    count
+    u32::try_from(n).unwrap_or(u32::MAX)
 }
 
 fn mark_of(n: u64) -> u8
     ensures { result ≡ mark_of n }
 {
-    if n <= 255 { n as u8 } else { 255 }
+    u8::try_from(n).unwrap_or(u8::MAX)
 }
 
-// Writes a float, where there is room for it.
-fn put_float(s: &mut [f64], i: usize, bits: u64)
-    ensures { s.new ≡ set s.old i (of_bits binary64 bits) }
+// Reads a time mark: 255 for every number that is larger.
+pub fn next_mark(list: &mut Numbers) -> u8
+    ensures value { result ≡ mark_of (value_at list.old.text.now list.old.at) }
+    ensures place { list.new ≡ past list.old 1 }
 {
-    if i < s.len() {
-        s[i] = replay::float_of_bits(bits);
+    mark_of(list.next_number())
+}
+
+// Reads as many trace lengths as the slice is long.
+pub fn read_lens(list: &mut Numbers, lens: &mut [u32])
+    ensures read { LensRead list.old.text.now list.old.at lens.old lens.new list.new.at }
+    ensures text { list.new.text ≡ list.old.text }
+{
+    for len in lens {
+        *len = length_of(list.next_number());
     }
 }
 
-fn put_mark(s: &mut [u8], i: usize, n: u64)
-    ensures { s.new ≡ set s.old i (mark_of n) }
+// The number of fixes of traces of these lengths: 65,537 for every larger one, since no fit takes so many.
+#[tactic(auto, using(crate::proofs::Read::sum_on, crate::proofs::Read::sum_end))]
+pub fn fix_count(lens: &[u32]) -> usize
+    ensures { result ≡ min (total lens.now) 65537 }
+{
+    let mut count = 0;
+    for &len in lens {
+        count = (count + len as usize).min(65537);
+    }
+    count
+}
+
+// Writes v at place i, where there is room for it.
+fn put<T: Copy>(s: &mut [T], i: usize, v: T)
+    ensures { s.new ≡ set s.old i v }
 {
     if i < s.len() {
-        s[i] = mark_of(n);
+        s[i] = v;
     }
 }
 
-// Reads n fixes, `x y mark time` each, into the slices, and hands back the place after them. What a slice has no room for is passed over.
+// Reads n fixes, `x y mark time` each, into the slices. What a slice has no room for is passed over.
 pub fn read_fixes(
-    text: &[u8],
-    at: usize,
+    list: &mut Numbers,
     n: usize,
     xs: &mut [f64],
     ys: &mut [f64],
     times: &mut [f64],
     marks: &mut [u8],
-) -> usize
-    ensures { FixesRead text.now at n xs.old ys.old times.old marks.old
-        xs.new ys.new times.new marks.new result }
+)
+    ensures read { FixesRead list.old.text.now list.old.at n xs.old ys.old times.old marks.old
+        xs.new ys.new times.new marks.new list.new.at }
+    ensures text { list.new.text ≡ list.old.text }
 {
-    let mut next = at;
-    let mut i = 0;
-    while i < n {
-        let x = replay::number(text, next);
-        let y = replay::number(text, x.next);
-        let m = replay::number(text, y.next);
-        let t = replay::number(text, m.next);
-        put_float(xs, i, x.value);
-        put_float(ys, i, y.value);
-        put_mark(marks, i, m.value);
-        put_float(times, i, t.value);
-        next = t.next;
-        i += 1;
+    for i in 0..n {
+        put(xs, i, list.next_float());
+        put(ys, i, list.next_float());
+        put(marks, i, next_mark(list));
+        put(times, i, list.next_float());
     }
-    next
 }
 
-// Prints the number of a refusal and its trace.
-pub fn print_refusal(e: Refusal) {
-    replay::print_number(settings::refusal::number(e) as u64);
+// Prints the number of the refusal and its trace, or `0 0`.
+pub fn print_answer<T>(answer: &Result<T, Refusal>) {
+    let (number, trace) = match answer {
+        Ok(_) => (0, 0),
+        Err(e) => (settings::refusal::number(*e), settings::refusal::trace(*e)),
+    };
+    replay::print_number(u64::from(number));
     replay::space();
-    replay::print_number(settings::refusal::trace(e) as u64);
+    replay::print_number(trace as u64);
 }

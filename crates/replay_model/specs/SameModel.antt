@@ -1,7 +1,8 @@
 -- Whether two models agree, floats bit for bit. Definitions only.
-use Rattle.std.specs.Prelude.{Bool, true, false, not, ◌&&◌, cond, List, [], ◌∷◌, eqb, ℤ, Float}
+use Rattle.std.specs.Prelude.{Bool, not, ◌&&◌, cond, List, eqb, ℤ, Float}
+use Rattle.std.specs.Ordering.{int_eq}
+use Rattle.std.specs.Cmp.Lexicographic.{pointwise}
 use Rattle.float.specs.Binary64.{same_bits}
-use Rattle.replay.specs.Same.{same_word}
 use Rattle.settings.specs.declared.config.Config.{Config}
 use Rattle.infostop.specs.declared.model.Infostop.{Infostop}
 
@@ -10,17 +11,11 @@ abbrev pub same_flag : Bool → Bool → Bool
 same_flag a b = cond a b (not b)
 
 -- Two lists of one length, item by item.
-unfoldable pub same_floats : List Float → List Float → Bool
-same_floats [] [] = true
-same_floats [] (y ∷ b) = false
-same_floats (x ∷ a) [] = false
-same_floats (x ∷ a) (y ∷ b) = let r = same_floats a b in same_bits x y && r
+abbrev pub same_floats : List Float → List Float → Bool
+same_floats = pointwise same_bits
 
-unfoldable pub same_words : List ℤ → List ℤ → Bool
-same_words [] [] = true
-same_words [] (y ∷ b) = false
-same_words (x ∷ a) [] = false
-same_words (x ∷ a) (y ∷ b) = let r = same_words a b in same_word x y && r
+abbrev pub same_words : List ℤ → List ℤ → Bool
+same_words = pointwise int_eq
 
 -- Settings: radii and times, resolution, whether singles are labelled, size and seed.
 unfoldable pub same_config : Config → Config → Bool
@@ -31,7 +26,7 @@ same_config a b =
     && (eqb a.min_size b.min_size && eqb a.seed b.seed))
 
 unfoldable pub same_model : Infostop → Infostop → Bool
-unfolding same_config same_floats same_words
+unfolding same_config
 same_model a b =
     (same_config a.config b.config && (same_flag a.fitted b.fitted && eqb a.count b.count))
     && ((same_floats a.xs b.xs && same_floats a.ys b.ys) && same_words a.labels b.labels)

@@ -1,12 +1,14 @@
-// For the programs that tell whether a fit left a model as it was: a model that a fit has altered before, the comparison, and the answer printed.
+// For the programs that tell whether a fit left a model as it was: a model that a fit has altered before, and the comparison.
+// Kept as it is: arrays of fixed size, of which a part is lent, since the project's memory is fixed and it takes no heap.
 #![tactic(auto)]
 
-ghost use Rattle.std.specs.Prelude.{◌≡◌, ◌&&◌};
+ghost use Rattle.std.specs.Prelude.{◌≡◌};
+ghost use Rattle.std.specs.List.{zip, list_all};
 ghost use Rattle.float.specs.Binary64.{same_bits};
-ghost use Rattle.replay_model.specs.SameModel.{same_flag, same_floats, same_words, same_config, same_model};
+ghost use Rattle.replay_model.specs.SameModel.{same_floats, same_config, same_model};
 
-use infostop::answer::Answer;
 use infostop::model::Infostop;
+use replay::same_float;
 use settings::config::Config;
 
 // A model with these settings that a fit of two linked places has altered. Refused settings: one that no fit has altered.
@@ -22,8 +24,7 @@ pub fn fitted_model(c: Config) -> Infostop
     let mut floats = [0.0; 20];
     let mut words = [0i32; 32];
     let made = Infostop::from_config(c);
-    let model = made.model;
-    let f = model.fit_predict_many(
+    let f = made.model.fit_predict_many(
         &xs,
         &ys,
         &times,
@@ -37,110 +38,44 @@ pub fn fitted_model(c: Config) -> Infostop
     f.model
 }
 
-fn same_float(x: f64, y: f64) -> bool
-    ensures { result ≡ same_bits x y }
+// Whether the items of two columns agree pair by pair, as far as both go.
+fn pairs_agree(a: &[f64], b: &[f64]) -> bool
+    ensures { result ≡ list_all (λ p. same_bits p.0 p.1) (zip a.now b.now) }
 {
-    replay::bits_of(x) == replay::bits_of(y)
+    a.iter().zip(b).all(|(&x, &y)| same_float(x, y))
 }
 
+#[tactic(auto, using(crate::proofs::Same::columns_differ))]
 fn same_floats(a: &[f64], b: &[f64]) -> bool
     ensures { result ≡ same_floats a.now b.now }
 {
-    if a.len() != b.len() {
-        return false;
-    }
-    let mut i = 0;
-    while i < a.len() {
-        if !same_float(a[i], b[i]) {
-            return false;
-        }
-        i += 1;
-    }
-    true
+    a.len() == b.len() && pairs_agree(a, b)
 }
 
-fn same_words(a: &[i32], b: &[i32]) -> bool
-    ensures { result ≡ same_words a.now b.now }
-{
-    if a.len() != b.len() {
-        return false;
-    }
-    let mut i = 0;
-    while i < a.len() {
-        if !replay::same_word(a[i], b[i]) {
-            return false;
-        }
-        i += 1;
-    }
-    true
-}
-
-// Two columns of a model. Apart from `same_model`, which then has no array to lend as a slice.
-fn same_column(a: &[f64; 512], b: &[f64; 512]) -> bool
-    ensures { result ≡ same_floats a.now b.now }
-{
-    same_floats(a, b)
-}
-
-fn same_labels(a: &[i32; 512], b: &[i32; 512]) -> bool
-    ensures { result ≡ same_words a.now b.now }
-{
-    same_words(a, b)
-}
-
-fn same_flag(a: bool, b: bool) -> bool
-    ensures { result ≡ same_flag a b }
-{
-    if a { b } else { !b }
-}
-
-fn both(a: bool, b: bool) -> bool
-    ensures { result ≡ (a && b) }
-{
-    if a { b } else { false }
-}
-
+// Kept as it is: floats are compared bit for bit; a derived == tells neither -0.0 from 0.0, nor that a NaN is still there.
+#[tactic(auto, unfolding(crate::specs::SameModel::same_config))]
 fn same_config(a: Config, b: Config) -> bool
     ensures { result ≡ same_config a b }
 {
-    let radii = both(same_float(a.r1, b.r1), same_float(a.r2, b.r2));
-    let stay = same_float(a.min_staying_time, b.min_staying_time);
-    let gap = same_float(a.max_time_between, b.max_time_between);
-    let resolution = same_float(a.min_spatial_resolution, b.min_spatial_resolution);
-    let single = same_flag(a.label_singleton, b.label_singleton);
-    let numbers = both(a.min_size == b.min_size, a.seed == b.seed);
-    both(
-        both(radii, both(stay, gap)),
-        both(both(resolution, single), numbers),
-    )
+    same_float(a.r1, b.r1)
+        && same_float(a.r2, b.r2)
+        && same_float(a.min_staying_time, b.min_staying_time)
+        && same_float(a.max_time_between, b.max_time_between)
+        && same_float(a.min_spatial_resolution, b.min_spatial_resolution)
+        && a.label_singleton == b.label_singleton
+        && a.min_size == b.min_size
+        && a.seed == b.seed
 }
 
 // Whether two models agree, floats bit for bit.
+#[tactic(auto, unfolding(crate::specs::SameModel::same_model))]
 pub fn same_model(a: Infostop, b: Infostop) -> bool
     ensures { result ≡ same_model a b }
 {
-    let ac = a.config;
-    let bc = b.config;
-    let ax = a.xs;
-    let bx = b.xs;
-    let ay = a.ys;
-    let by = b.ys;
-    let al = a.labels;
-    let bl = b.labels;
-    let settings = same_config(ac, bc);
-    let fitted = both(same_flag(a.fitted, b.fitted), a.count == b.count);
-    let points = both(same_column(&ax, &bx), same_column(&ay, &by));
-    both(both(settings, fitted), both(points, same_labels(&al, &bl)))
-}
-
-// Prints the refusal's number and trace, or `0 0`.
-pub fn print_answer(a: Answer) {
-    match a {
-        Answer::Labelled(_, _) => {
-            replay::print_number(0);
-            replay::space();
-            replay::print_number(0);
-        }
-        Answer::Refused(e) => replay_case::print_refusal(e),
-    }
+    same_config(a.config, b.config)
+        && a.fitted == b.fitted
+        && a.count == b.count
+        && same_floats(&a.xs, &b.xs)
+        && same_floats(&a.ys, &b.ys)
+        && a.labels == b.labels
 }

@@ -6,8 +6,8 @@ use Rattle.replay_case.specs.Case.{settings_at}
 use Rattle.replay_visits.specs.declared.read.Head.{Head}
 use Rattle.replay_visits.specs.declared.read.Sizes.{Sizes}
 
--- Settings, and the numbers behind them in their order, from the place i of the text t on.
-pub record HeadRead (t : List ℕ) (i : ℕ) (h : Head) : Type 0 where
+-- Settings, and the numbers behind them in their order, from the place i of the text t on; `next` is the place after them.
+pub record HeadRead (t : List ℕ) (i : ℕ) (h : Head) (next : ℕ) : Type 0 where
   pub config : h.config ≡ settings_at t i
   pub trace : h.sizes.trace ≡ number_at t i 8
   pub room : h.sizes.room ≡ number_at t i 9
@@ -15,7 +15,7 @@ pub record HeadRead (t : List ℕ) (i : ℕ) (h : Head) : Type 0 where
   pub traces : h.traces ≡ number_at t i 11
   pub fitted : h.sizes.fitted ≡ number_at t i 12
   pub until : h.sizes.until ≡ number_at t i 13
-  pub place : h.next ≡ skip t i 14
+  pub place : next ≡ skip t i 14
 
 -- The lengths of four columns: one length, and there is room for it.
 pub record Columns (xs ys times marks : ℕ) : Type 0 where

@@ -10,19 +10,17 @@ use lib.ListN.{length, take, replicate, length-replicate, length-map}
 use lib.Seq.{take_all}
 use Rattle.lists.specs.Lists.{overlay}
 use Rattle.lists.proofs.Overlay.{take_front, length_overlay}
+use Rattle.std.specs.Prelude.{Ok, Err}
 use Rattle.float.specs.Binary64.{zero64}
 use Rattle.settings.specs.declared.config.Config.{Config}
 use Rattle.settings.specs.declared.refusal.Refusal.{Refusal}
 use Rattle.settings.specs.declared.refusal.Refusal.TheVariants.{Text, Counts}
-use Rattle.settings.specs.declared.refusal.Checked.{Checked}
-use Rattle.settings.specs.declared.refusal.Checked.TheVariants as checked
+use Rattle.settings.specs.Checks.{Checked}
 use Rattle.settings.specs.Settings.{check_config}
 use Rattle.infostop.specs.Fit.{refused, unless_refused}
 use Rattle.text.specs.declared.Input.{Input}
-use Rattle.text.specs.declared.Parsed.{Parsed}
-use Rattle.text.specs.declared.Parsed.TheVariants.{Tracks, Refused}
 use Rattle.text.specs.Values.{FixLine, Read, outside, inside, read, time_value, time_mark, with_fix, lengths_from, lengths_of, Columns}
-use Rattle.text.specs.Parsed.{too_many, unless_many, at_most768, parsed, into, with_columns}
+use Rattle.text.specs.Parsed.{Parsed, too_many, unless_many, at_most768, parsed, into, with_columns}
 use Rattle.text.specs.Pieces.{first_fixes}
 use Rattle.print.specs.Lines.{refusal_text}
 use Rattle.print.specs.Written.{Writes}
@@ -69,27 +67,27 @@ first_all ls h = take_all 768 ls h
 pub writes_as : {t u out out' : List ℕ} {r : ℕ} → t ≡ u → Writes t out r out' → Writes u out r out'
 writes_as {t} {u} {out} {out'} {r} e w = subst (λ (z : List ℕ). Writes z out r out') e w
 
-not_both : {A : Type 0} (i : Input) (e : Refusal) → Tracks i ≡ Refused e → A
-not_both i e q = absurd (let z : ◌≡◌ {A = ℕ} 0 1 = cc in omega arith)
+not_both : {A : Type 0} (i : Input) (e : Refusal) → ◌≡◌ {A = Parsed} (Ok i) (Err e) → A
+not_both i e q = absurd (cc)
 
-same_refusal : (e f : Refusal) → Refused e ≡ Refused f → e ≡ f
+same_refusal : (e f : Refusal) → ◌≡◌ {A = Parsed} (Err e) (Err f) → e ≡ f
 same_refusal e f q = cc
 
-same_input : (i j : Input) → Tracks i ≡ Tracks j → i ≡ j
+same_input : (i j : Input) → ◌≡◌ {A = Parsed} (Ok i) (Ok j) → i ≡ j
 same_input i j q = cc
 
-many_text : (form : Form) (ls : List FixLine) (k : Checked) (e : Refusal) → too_many k ≡ Refused e
+many_text : (form : Form) (ls : List FixLine) (k : Checked) (e : Refusal) → too_many k ≡ Err e
     → outcome_text form (lengths_of ls) (unless_refused k (refused Counts)) ≡ refusal_text e
 unfolding too_many unless_refused outcome_text
-many_text form ls checked.Accepted e q = ap refusal_text (same_refusal Counts e q)
-many_text form ls (checked.Refused f) e q = ap refusal_text (same_refusal f e q)
+many_text form ls (Ok u) e q = ap refusal_text (same_refusal Counts e q)
+many_text form ls (Err f) e q = ap refusal_text (same_refusal f e q)
 
-refused_read : (form : Form) (q : Read) (e : Refusal) → parsed q ≡ Refused e → read_text form q ≡ refusal_text e
+refused_read : (form : Form) (q : Read) (e : Refusal) → parsed q ≡ Err e → read_text form q ≡ refusal_text e
 unfolding parsed at_most768 read_text
 refused_read form outside e p = ap refusal_text (same_refusal Text e p)
 refused_read form (inside c ls) e p = go (ltb 768 (length ls)) p
   where
-    go : (b : Bool) → unless_many b c (length ls) (length (lengths_of ls)) ≡ Refused e → fixes_text form b c ls ≡ refusal_text e
+    go : (b : Bool) → unless_many b c (length ls) (length (lengths_of ls)) ≡ Err e → fixes_text form b c ls ≡ refusal_text e
     go true r = unfold unless_many fixes_text in many_text form ls (check_config c) e r
     go false r = unfold unless_many in not_both _ e r
 
@@ -120,7 +118,7 @@ module _ (s : Config) (ls : List FixLine) (few : length ls ≤ 768) (c : Columns
 
   given : (b : Bool) → b ≡ false → ltb 768 (length ls) ≡ b → Given input c (inside s ls)
   unfolding read_text fixes_text with_columns
-  given true p q = absurd (let z : ◌≡◌ {A = ℕ} 0 1 = cc in omega arith)
+  given true p q = absurd (cc)
   given false p q =
       let x = mapped (λ (l : FixLine). l.x) zero64 c.xs (ap (λ (d : Columns). d.xs) e) in
       let y = mapped (λ (l : FixLine). l.y) zero64 c.ys (ap (λ (d : Columns). d.ys) e) in
@@ -140,29 +138,29 @@ module _ (s : Config) (ls : List FixLine) (few : length ls ≤ 768) (c : Columns
 
 module _ {t : List ℕ} {p : Parsed} {c : Columns} (r : FromText t p c) where
   -- A refusal is the program's.
-  pub refused_text : (form : Form) (e : Refusal) → p ≡ Refused e → program_text form t ≡ refusal_text e
+  pub refused_text : (form : Form) (e : Refusal) → p ≡ Err e → program_text form t ≡ refusal_text e
   unfolding program_text
   refused_text form e q = refused_read form (read t) e (sym r.answer ∙ q)
 
   -- Tracks are given to the fit as the text has them.
-  pub tracks_text : (i : Input) → p ≡ Tracks i → Given i c (read t)
+  pub tracks_text : (i : Input) → p ≡ Ok i → Given i c (read t)
   tracks_text i q = go (read t) refl (sym r.answer ∙ q)
     where
-      go : (u : Read) → read t ≡ u → parsed u ≡ Tracks i → Given i c u
+      go : (u : Read) → read t ≡ u → parsed u ≡ Ok i → Given i c u
       go outside e z = unfold parsed in not_both i Text (sym z)
       go (inside s ls) e z = within (ltb 768 (length ls)) refl (unfold parsed at_most768 in z)
         where
-          within : (b : Bool) → ltb 768 (length ls) ≡ b → unless_many b s (length ls) (length (lengths_of ls)) ≡ Tracks i → Given i c (inside s ls)
+          within : (b : Bool) → ltb 768 (length ls) ≡ b → unless_many b s (length ls) (length (lengths_of ls)) ≡ Ok i → Given i c (inside s ls)
           within true y w = unfold unless_many in many (check_config s) w
             where
-              many : (k : Checked) → too_many k ≡ Tracks i → Given i c (inside s ls)
-              many checked.Accepted v = unfold too_many in not_both i Counts (sym v)
-              many (checked.Refused f) v = unfold too_many in not_both i f (sym v)
+              many : (k : Checked) → too_many k ≡ Ok i → Given i c (inside s ls)
+              many (Ok u) v = unfold too_many in not_both i Counts (sym v)
+              many (Err f) v = unfold too_many in not_both i f (sym v)
           within false y w =
-              let v : Tracks (record { config = s; fixes = length ls; traces = length (lengths_of ls) }) ≡ Tracks i = unfold unless_many in w in
+              let v : ◌≡◌ {A = Parsed} (Ok (record { config = s; fixes = length ls; traces = length (lengths_of ls) })) (Ok i) = unfold unless_many in w in
               subst (λ (j : Input). Given j c (inside s ls)) (same_input (record { config = s; fixes = length ls; traces = length (lengths_of ls) }) i v)
               (given s ls (ltb-false 768 (length ls) y) c (r.slices s ls e) false refl y)
 
-  pub program_is : (form : Form) (i : Input) → p ≡ Tracks i → fit_text form i c ≡ program_text form t
+  pub program_is : (form : Form) (i : Input) → p ≡ Ok i → fit_text form i c ≡ program_text form t
   unfolding program_text
   program_is form i q = (tracks_text i q).text form

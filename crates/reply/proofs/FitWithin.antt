@@ -11,7 +11,7 @@ use lib.ListN.{length, get_or}
 use lib.Ieee.{Float}
 use Rattle.lists.specs.Lists.{minus_one}
 use Rattle.settings.specs.declared.config.Config.{Config}
-use Rattle.settings.specs.declared.refusal.Checked.TheVariants.{Accepted}
+use Rattle.std.specs.Prelude.{Ok}
 use Rattle.posting.specs.Sheet.{page_count}
 use Rattle.posting.specs.Posted.{in_column, all_in_column, check_sheet}
 use Rattle.posting.specs.Steps.{SheetWithin}
@@ -46,7 +46,7 @@ fit_within c xs ys times marks lens labels cap floats words f e =
 
 pub fit_sheet : (c : Config) (xs ys times : List Float) (marks lens : List ℕ) (labels cap floats words : ℕ) (f : Fitted)
     → fit c xs ys times marks lens labels cap floats words ≡ fitted f → (room : ℕ) → 14 * (length f.labels + page_count (length f.labels)) ≤ room
-    → check_sheet lens f.labels room ≡ Accepted
+    → check_sheet lens f.labels room ≡ Ok tt
 fit_sheet c xs ys times marks lens labels cap floats words f e room h =
     let t = (accepted c xs ys times marks lens labels cap floats words f e).tracks in
     sheet_given lens f.labels room (agreed c xs ys times marks lens labels cap floats words f t).some_trace

@@ -10,8 +10,8 @@ use lib.IntN.{ℤ}
 use lib.ListN.{length, take, length-map}
 use Rattle.settings.specs.declared.config.Config.{Config}
 use Rattle.settings.specs.declared.refusal.Refusal.TheVariants.{Text, Counts}
-use Rattle.settings.specs.declared.refusal.Checked.{Checked}
-use Rattle.settings.specs.declared.refusal.Checked.TheVariants.{Accepted, Refused}
+use Rattle.std.specs.Prelude.{Ok, Err}
+use Rattle.settings.specs.Checks.{Checked}
 use Rattle.settings.specs.Settings.{check_config}
 use Rattle.infostop.specs.Fit.{Outcome, refused, fitted, unless_refused, fit}
 use Rattle.infostop.proofs.Accepted.{fit_labels}
@@ -27,8 +27,8 @@ use Rattle.reply.proofs.FitWithin.{fit_within}
 
 refused_short : (form : Form) (lens : List ℕ) (k : Checked) → length (outcome_text form lens (unless_refused k (refused Counts))) ≤ 49152
 unfolding unless_refused outcome_text
-refused_short form lens Accepted = omega (arith, refusal_length Counts)
-refused_short form lens (Refused e) = omega (arith, refusal_length e)
+refused_short form lens (Ok u) = omega (arith, refusal_length Counts)
+refused_short form lens (Err e) = omega (arith, refusal_length e)
 
 labels_short : (form : Form) (lens : List ℕ) (labels : List ℤ) → SheetWithin lens labels → length labels ≤ 768 → length (labels_as form lens labels) ≤ 49152
 unfolding labels_as

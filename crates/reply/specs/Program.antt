@@ -6,8 +6,8 @@ use Rattle.settings.specs.declared.config.Config.{Config}
 use Rattle.settings.specs.declared.refusal.Refusal.TheVariants.{Counts, Text}
 use Rattle.settings.specs.Settings.{check_config}
 use Rattle.infostop.specs.Fit.{Outcome, refused, fitted, unless_refused, fit}
-use Rattle.text.specs.declared.Parsed.{Parsed}
 use Rattle.text.specs.Values.{FixLine, Read, outside, inside, read, xs_of, ys_of, times_of, marks_of, lengths_of, Columns, columns}
+use Rattle.text.specs.Parsed.{Parsed}
 use Rattle.text.specs.Pieces.{ReadAs}
 use Rattle.print.specs.Lines.{labels_text, refusal_text}
 use Rattle.print.specs.Written.{Writes}

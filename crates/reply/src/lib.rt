@@ -1,4 +1,5 @@
 // From a text in the house form to the text of the answer: parser, fit and printer together.
+// Kept as it is: arrays of fixed size, of which a part is lent, since the project's memory is fixed and it takes no heap.
 #![tactic(auto)]
 
 ghost use Rattle.std.specs.Prelude.{List, ℕ};
@@ -8,25 +9,28 @@ ghost use Rattle.posting.specs.Steps.{SheetWithin};
 ghost use Rattle.reply.specs.Program.{labels_as, program_text, FromText, Answers};
 ghost use Rattle.reply.specs.Steps.{Room, fit_text};
 
-use infostop::answer::Answer;
 use infostop::model::Infostop;
-use text::{Input, Parsed};
+use settings::refusal::Refusal;
+use text::Input;
 
 // How labels are printed: a line for each fix, as the program `stops` does, or as a posting sheet, as the program `sheet` does.
-#[derive(Clone, Copy)]
+#[derive(Clone, Copy, Debug, PartialEq, Eq)]
 pub enum Form {
     Lines,
     Sheet,
 }
 
-// The labels in a form. That they fit the columns of a sheet is asked for in both.
-fn print_as(form: Form, lens: &[u32], labels: &[i32], out: &mut [u8]) -> usize
-    requires { SheetWithin lens.now labels.now }
-    ensures { Writes (labels_as form lens.now labels.now) out.old result out.new }
-{
-    match form {
-        Form::Lines => print::print_labels(lens, labels, out),
-        Form::Sheet => posting::write_sheet(lens, labels, out),
+impl Form {
+    // The labels in the form. That they fit the columns of a sheet is asked for in both.
+    #[tactic(auto, unfolding(crate::specs::Program::labels_as))]
+    fn print(self, lens: &[u32], labels: &[i32], out: &mut [u8]) -> usize
+        requires { SheetWithin lens.now labels.now }
+        ensures { Writes (labels_as self lens.now labels.now) out.old result out.new }
+    {
+        match self {
+            Form::Lines => print::print_labels(lens, labels, out),
+            Form::Sheet => posting::write_sheet(lens, labels, out),
+        }
     }
 }
 
@@ -46,34 +50,33 @@ fn fit_text(
         out.old result out.new }
 {
     let n = input.fixes;
-    let k = input.traces;
-    let made = Infostop::from_config(input.config);
-    let model = made.model;
-    let mut labels = [-1i32; 768];
+    let lens = &lens[..input.traces];
+    let model = Infostop::from_config(input.config).model;
+    let mut labels = [-1; 768];
     let mut floats = [0.0; 7168];
-    let mut words = [0i32; 3584];
-    let f = model.fit_predict_many(
-        &xs[0..n],
-        &ys[0..n],
-        &times[0..n],
-        &marks[0..n],
-        &lens[0..k],
-        &mut labels[0..n],
+    let mut words = [0; 3584];
+    let fit = model.fit_predict_many(
+        &xs[..n],
+        &ys[..n],
+        &times[..n],
+        &marks[..n],
+        lens,
+        &mut labels[..n],
         64,
         &mut floats,
         &mut words,
     );
-    let a = f.answer;
-    match a {
-        Answer::Labelled(_, _) => print_as(form, &lens[0..k], &labels[0..n], out),
-        Answer::Refused(e) => print::print_refusal(e, out),
+    match fit.answer {
+        Ok(_) => form.print(lens, &labels[..n], out),
+        Err(e) => print::print_refusal(e, out),
     }
 }
 
 // The answer to what was read, as a text.
+// Kept as it is: the columns are lent slices side by side, as a fit takes them.
 pub fn answer(
     form: Form,
-    p: Parsed,
+    p: Result<Input, Refusal>,
     xs: &[f64],
     ys: &[f64],
     times: &[f64],
@@ -86,8 +89,8 @@ pub fn answer(
         out.old result out.new }
 {
     match p {
-        Parsed::Refused(e) => print::print_refusal(e, out),
-        Parsed::Tracks(input) => fit_text(form, input, xs, ys, times, marks, lens, out),
+        Ok(input) => fit_text(form, input, xs, ys, times, marks, lens, out),
+        Err(e) => print::print_refusal(e, out),
     }
 }
 

@@ -1,33 +1,21 @@
--- A slice whose front is written item by item.
+-- A slice whose front is written.
 use mathlib.Core.Path.{◌≡◌, refl, sym, ap, ◌∙◌}
-use mathlib.Core.List.{List, map}
+use mathlib.Core.List.{List, [], ◌∷◌, map, ◌++◌}
 use Prim.Native.Nat.{ℕ, ◌+◌, ◌<◌, ◌≤◌}
 use native.Mathlib.Numerals.{add-one}
 use native.Mathlib.Omega.{arith}
-use lib.ListN.{length, get_or, set, take, length-map, get_or-map}
+use lib.ListN.{length, get_or, set, take, drop, length-map, get_or-map}
 use lib.Seq.{length-take-le, take_all, take-suc}
 use Rattle.lists.specs.Lists.{upto, overlay}
 use Rattle.lists.proofs.Upto.{length_upto, get_or_upto}
 use Rattle.lists.proofs.Overlay.{overlay_set}
 
-module _ {A : Type 0} (l s : List A) where
-  pub front_start : s ≡ overlay (take 0 l) s
-  unfolding overlay
-  front_start = refl
+-- The first n items of l, put in place of the first n of s.
+pub put_first : {A : Type 0} (n : ℕ) (l s : List A) → n ≤ length l → take n l ++ drop n s ≡ overlay (take n l) s
+unfolding overlay
+put_first n l s h = rw (length-take-le n l h)
 
-  -- The next item of l, of which the first i stand there.
-  pub front_on : (d : A) (i : ℕ) (t : List A) → t ≡ overlay (take i l) s → i < length l → i < length s → set t i (get_or l i d) ≡ overlay (take (i + 1) l) s
-  front_on d i t e h k =
-      let n : length (take i l) ≡ i = length-take-le i l (omega arith) in
-      ap (λ (z : List A). set z i (get_or l i d)) e
-      ∙ ap (λ (z : ℕ). set (overlay (take i l) s) z (get_or l i d)) (sym n)
-      ∙ overlay_set (take i l) s (get_or l i d) (omega arith)
-      ∙ ap (λ (z : List A). overlay z s) (sym (take-suc l i d h) ∙ ap (λ (z : ℕ). take z l) (sym (add-one i)))
-
-  pub front_end : (i : ℕ) (t : List A) → t ≡ overlay (take i l) s → length l ≤ i → t ≡ overlay l s
-  front_end i t e h = e ∙ ap (λ (z : List A). overlay z s) (take_all i l h)
-
--- ---- f of each number below n, in order
+-- ---- f of each number below n, in order, item by item
 module _ {A : Type 0} (f : ℕ → A) (n : ℕ) (s : List A) where
   abbrev each : List A
   each = map f (upto n)
@@ -36,13 +24,20 @@ module _ {A : Type 0} (f : ℕ → A) (n : ℕ) (s : List A) where
   each_length = length-map (upto n) f ∙ length_upto n
 
   pub each_start : s ≡ overlay (take 0 (map f (upto n))) s
-  each_start = front_start each s
+  unfolding overlay
+  each_start = refl
 
+  -- The next of them, of which the first i stand there.
   pub each_on : (i : ℕ) (t : List A) {v : A} → t ≡ overlay (take i (map f (upto n))) s → i < n → n ≤ length s → v ≡ f i
       → set t i v ≡ overlay (take (i + 1) (map f (upto n))) s
-  each_on i t e h k q =
-      let l = each_length in
-      ap (set t i) (q ∙ sym (get_or-map f (upto n) i 0 ∙ ap f (get_or_upto n i h))) ∙ front_on each s (f 0) i t e (omega arith) (omega arith)
+  each_on i t {v} e h k q =
+      let long = each_length in
+      let front : length (take i each) ≡ i = length-take-le i each (omega arith) in
+      let here : get_or each i (f 0) ≡ v = get_or-map f (upto n) i 0 ∙ ap f (get_or_upto n i h) ∙ sym q in
+      ap (λ (z : List A). set z i v) e
+      ∙ ap (λ (z : ℕ). set (overlay (take i each) s) z v) (sym front)
+      ∙ overlay_set (take i each) s v (omega arith)
+      ∙ ap (λ (z : List A). overlay z s) (ap (λ (z : A). take i each ++ (z ∷ [])) (sym here) ∙ sym (take-suc each i (f 0) (omega arith)) ∙ ap (λ (z : ℕ). take z each) (sym (add-one i)))
 
   pub each_end : (i : ℕ) (t : List A) → t ≡ overlay (take i (map f (upto n))) s → n ≤ i → t ≡ overlay (map f (upto n)) s
-  each_end i t e h = let l = each_length in front_end each s i t e (omega arith)
+  each_end i t e h = let l = each_length in e ∙ ap (λ (z : List A). overlay z s) (take_all i each (omega arith))

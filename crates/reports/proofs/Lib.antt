@@ -1,13 +1,8 @@
 pub mod Copies
-pub mod Answers
-pub mod Held
-pub mod PlaceReports
 pub mod Starts
 pub mod ViewParts
 pub mod Upward
 pub mod Gathered
-pub mod MedianReports
 pub mod Counted
-pub mod StayLabels
 pub mod OneTraces
 pub mod VisitReports

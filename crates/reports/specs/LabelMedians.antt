@@ -1,10 +1,10 @@
 -- Label medians (docs/RULES.md, "Label medians", in rising label: the median of each label's places). Definitions only.
-use Rattle.std.specs.Prelude.{◌≡◌, ℕ, ◌||◌, cond, List, [], ◌∷◌, map, ltb, ℤ, length, Float}
+use Rattle.std.specs.Prelude.{◌≡◌, ℕ, ◌||◌, cond, List, [], ◌∷◌, map, ltb, ℤ, length, Float, Result}
 use Rattle.lists.specs.Lists.{upto}
 use Rattle.stay.specs.Ordered.{ordered, median}
-use Rattle.settings.specs.declared.refusal.Checked.{Checked}
+use Rattle.settings.specs.declared.refusal.Refusal.{Refusal}
+use Rattle.settings.specs.Checks.{Checked}
 use Rattle.infostop.specs.declared.model.Infostop.{Infostop}
-use Rattle.reports.specs.declared.answer.Reported.{Reported}
 use Rattle.reports.specs.Reports.{model_xs, model_ys, model_labels, check_model, report_if, slice_after}
 use Rattle.reports.specs.Labels.{labels_in, is_label}
 
@@ -26,7 +26,7 @@ label_medians ks vs = map (label_median ks vs) (upto (labels_in ks))
 abbrev pub check_medians : Infostop → ℕ → ℕ → Checked
 check_medians m xs ys = check_model m.fitted (ltb xs (labels_in (model_labels m)) || ltb ys (labels_in (model_labels m)))
 
-pub record MediansReported (m : Infostop) (xs ys : List Float) (r : Reported) (xs' ys' : List Float) : Type 0 where
+pub record MediansReported (m : Infostop) (xs ys : List Float) (r : Result ℕ Refusal) (xs' ys' : List Float) : Type 0 where
   pub answer : r ≡ report_if (check_medians m (length xs) (length ys)) (labels_in (model_labels m))
   pub xs_end : xs' ≡ slice_after (check_medians m (length xs) (length ys)) (label_medians (model_labels m) (model_xs m)) xs
   pub ys_end : ys' ≡ slice_after (check_medians m (length xs) (length ys)) (label_medians (model_labels m) (model_ys m)) ys

@@ -6,8 +6,6 @@ use Rattle.distance.specs.Distance.{euclidean}
 use Rattle.settings.specs.declared.config.Config.{Config}
 use Rattle.trace.specs.Trace.{fixes, traces}
 use Rattle.neighbors.specs.Places.{places_in}
-use Rattle.settings.specs.declared.refusal.Checked.TheVariants.{Accepted}
-use Rattle.checks.specs.Tracks.{check_report_tracks}
 use Rattle.stay.specs.Stays.{all_medians}
 use Rattle.cluster.specs.FixLabels.{stay_labels}
 use Rattle.stay.specs.StepsAll.{AllLengths}
@@ -30,10 +28,12 @@ pub record LabelledStays (n : ℕ) (px py : List Float) (pl : List ℤ) (ms : Li
   pub few : r ≤ n
   pub labels : (cs : List ℕ) → length cs ≡ length px → take r (drop n words) ≡ stay_labels (places_in px py cs) pl ms
 
--- What the visits are written from: accepted tracks and a trace of theirs, the number n of the model's places and `count` of its labels, for which
--- there is room. `floats`, `words` and `out` are the lengths of the lent slices.
+-- What the visits are written from: columns and trace lengths that agree and a trace of theirs, the number n of the model's places and `count` of its
+-- labels, and room for work and answer. `floats`, `words` and `out` are the lengths of the lent slices.
 pub record VisitsAsked (m : Infostop) (n count : ℕ) (xs ys ts : List Float) (ms lens : List ℕ) (trace floats words out : ℕ) : Type 0 where
-  pub accepted : check_report_tracks xs ys ts ms lens floats words ≡ Accepted
+  pub lengths : AllLengths (length xs) (length ys) (length ts) (length ms) (length xs) (4 * length xs) lens
+  pub floats_room : 4 * length xs ≤ floats
+  pub words_room : 4 * length xs ≤ words
   pub there : trace < length lens
   pub places : n ≡ place_count m
   pub labels : count ≡ labels_in (model_labels m)

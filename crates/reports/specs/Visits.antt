@@ -1,16 +1,15 @@
 -- Visits (docs/RULES.md, "Visits"). Definitions only.
-use Rattle.std.specs.Prelude.{◌≡◌, ℕ, suc, true, ◌||◌, cond, List, [], ◌∷◌, map, leb, ltb, ℤ, length, get_or, replicate, Float}
+use Rattle.std.specs.Prelude.{◌≡◌, ℕ, suc, true, ◌||◌, cond, List, [], ◌∷◌, map, leb, ltb, ℤ, length, get_or, replicate, Float, Result}
 use Rattle.lists.specs.Lists.{upto}
 use Rattle.distance.specs.Distance.{euclidean}
 use Rattle.trace.specs.Trace.{Fix, fixes, traces}
 use Rattle.stay.specs.Stays.{stay_medians}
 use Rattle.neighbors.specs.Places.{Place, places_in}
-use Rattle.settings.specs.declared.refusal.Checked.{Checked}
-use Rattle.settings.specs.Checks.{is_refused, in_turn}
+use Rattle.settings.specs.declared.refusal.Refusal.{Refusal}
+use Rattle.settings.specs.Checks.{Checked, is_refused, in_turn}
 use Rattle.checks.specs.Tracks.{check_report_tracks}
 use Rattle.cluster.specs.FixLabels.{stay_labels}
 use Rattle.infostop.specs.declared.model.Infostop.{Infostop}
-use Rattle.reports.specs.declared.answer.Reported.{Reported}
 use Rattle.reports.specs.Reports.{place_count, model_xs, model_ys, model_labels, check_model, report_if, slice_after}
 use Rattle.reports.specs.Labels.{labels_in, is_label}
 
@@ -46,7 +45,7 @@ module _ (m : Infostop) (xs ys ts : List Float) (ms lens : List ℕ) (trace : �
       ∷ check_model m.fitted (leb (length lens) trace || ltb (length out) (labels_in (model_labels m)))
       ∷ [])
 
-  pub record VisitsReported (r : Reported) (floats' : List Float) (words' : List ℤ) (out' : List ℕ) : Type 0 where
+  pub record VisitsReported (r : Result ℕ Refusal) (floats' : List Float) (words' : List ℤ) (out' : List ℕ) : Type 0 where
     pub answer : r ≡ report_if check_visits (labels_in (model_labels m))
     pub out_end : out' ≡ slice_after check_visits (trace_visits m (trace_fixes xs ys ts ms lens trace)) out
     -- Work is free after success.

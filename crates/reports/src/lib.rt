@@ -1,7 +1,6 @@
 // The reports on a fitted model, and the trace view. A report takes the model by value and hands none back: the caller's stays as it is.
 #![tactic(auto)]
 
-pub mod answer;
 mod labels;
 pub mod medians;
 mod shared;

@@ -1,5 +1,5 @@
 -- The order of visiting: how the loops go on, and that every item is a node.
-use mathlib.Core.Path.{◌≡◌, refl, ◌∙◌}
+use mathlib.Core.Path.{◌≡◌, refl, sym, ◌∙◌}
 use mathlib.Core.List.{List}
 use Prim.Native.Nat.{ℕ, zero, suc, ◌+◌, ◌-◌, ◌<◌, ◌≤◌}
 use native.Mathlib.Nat.{mod-lt, zero-lt-suc}
@@ -7,23 +7,29 @@ use native.Mathlib.Decide.{ℕ_discrete}
 use native.Mathlib.Numerals.{add-one}
 use native.Mathlib.Omega.{arith}
 use lib.ListN.{length, get_or, set, length-set}
+use Rattle.std.specs.List.{swap as std_swap}
+use Rattle.std.proofs.lemmas.List.Edits.{swap_is}
 use lib.Seq.{get_or-set_same, get_or-set_other}
-use Rattle.rng.specs.Rng.{next_u64, gen_range, swap, shuffle_from, shuffle}
+use Rattle.rng.specs.Rng.{Shuffled, next_u64, gen_range, swap, shuffle_from, shuffle}
 use Rattle.rng.specs.Steps.{Below}
 use Rattle.lists.specs.Lists.{from, upto}
 use Rattle.lists.proofs.Upto.{length_upto, get_or_upto}
 
-pub shuffle_on : (i x : ℕ) (s : List ℕ) {x' j : ℕ} {s' : List ℕ} → 0 < i → x' ≡ next_u64 x → j ≡ gen_range x' (i + 1) → s' ≡ swap s i j → shuffle_from (i - 1) x' s' ≡ shuffle_from i x s
-unfolding shuffle_from
-shuffle_on zero x s h p q e = absurd (omega arith)
-shuffle_on (suc k) x s h p q e =
-    let m : suc k - 1 ≡ k = omega arith in
-    rw (e, q, p, m, add-one (suc k))
+-- One swap more, by the library's swap.
+pub shuffle_on : (i x : ℕ) (s : List ℕ) {w : Shuffled} {x' j : ℕ} {s' : List ℕ} → w ≡ shuffle_from i x s → 0 < i → i < length s → x' ≡ next_u64 x → j ≡ gen_range x' (i + 1)
+    → s' ≡ std_swap s i j → w ≡ shuffle_from (i - 1) x' s'
+unfolding shuffle_from swap
+shuffle_on zero x s f h k p q e = absurd (omega arith)
+shuffle_on (suc i) x s {x' = x'} {j = j} f h k p q e =
+    let m : suc i - 1 ≡ i = omega arith in
+    let r = mod-lt x' (zero-lt-suc (suc i)) in
+    let t : j < length s = omega (arith, rw add-one at q) in
+    f ∙ sym (rw (e, ← swap_is s (suc i) j 0 k t, q, p, m, add-one (suc i)))
 
-pub shuffle_end : (i x : ℕ) (s : List ℕ) → i ≤ 0 → shuffle_from i x s ≡ record { list = s; rng = x }
+pub shuffle_end : (i x : ℕ) (s : List ℕ) {w : Shuffled} → w ≡ shuffle_from i x s → i ≤ 0 → w ≡ record { list = s; rng = x }
 unfolding shuffle_from
-shuffle_end zero x s h = refl
-shuffle_end (suc i) x s h = absurd (omega arith)
+shuffle_end zero x s f h = f
+shuffle_end (suc i) x s f h = absurd (omega arith)
 
 pub length_swap : (l : List ℕ) (i j : ℕ) → length (swap l i j) ≡ length l
 unfolding swap

@@ -1,10 +1,11 @@
 // The generator of the trials (xorshift64) and the order of visiting.
 // A state is a u64 that goes in by value; the next state is the generator's output.
+// Kept as it is: arrays of fixed size, of which a part is lent, since the project's memory is fixed and it takes no heap.
 #![tactic(auto)]
 
 ghost use Rattle.std.specs.Prelude.{◌≡◌, ◌+◌, ◌-◌, ◌%◌, ◌<◌, ◌≤◌, length};
-ghost use Rattle.lists.specs.Lists.{upto};
-ghost use Rattle.rng.specs.Rng.{seeded, next_u64, gen_range, swap, shuffle, order};
+ghost use Rattle.rng.specs.Rng.{seeded, next_u64, gen_range, shuffle, order};
+ghost use Rattle.rng.specs.Steps.{Counts};
 
 // The first state: the seed with its lowest bit set, so that it is not 0.
 pub fn seeded(seed: u64) -> u64
@@ -13,6 +14,7 @@ pub fn seeded(seed: u64) -> u64
     seed | 1
 }
 
+#[tactic(auto, unfolding(crate::specs::Rng::next_u64))]
 pub fn next_u64(x: u64) -> u64
     ensures { result ≡ next_u64 x }
 {
@@ -29,71 +31,46 @@ pub fn gen_range(output: u64, len: usize) -> usize
     (output % (len as u64)) as usize
 }
 
-fn swap(s: &mut [u16], i: usize, j: usize)
-    requires { (i < length s.old) × (j < length s.old) }
-    ensures { s.new ≡ swap s.old i j }
-{
-    let t = s[i];
-    s[i] = s[j];
-    s[j] = t;
-}
-
 // Shuffles from the last place down, and gives the generator's new state.
+#[tactic(auto, using(crate::proofs::Visits::shuffle_on, crate::proofs::Visits::shuffle_end), unfolding(crate::specs::Rng::shuffle))]
 fn shuffle(s: &mut [u16], rng: u64) -> u64
     ensures { shuffle rng s.old ≡ record { list = s.new; rng = result } }
 {
     let mut x = rng;
-    let mut i = s.len();
-    while 1 < i {
-        i -= 1;
+    for i in (1..s.len()).rev() {
         x = next_u64(x);
-        swap(s, i, gen_range(x, i + 1));
+        s.swap(i, gen_range(x, i + 1));
     }
     x
 }
 
-// Writes 0, 1, 2, ..
-pub fn fill(s: &mut [u32])
+// Writes 0, 1, 2, .. in the slice's own numbers, of 16 bits or more.
+pub fn fill<T: Copy + From<u16>>(s: &mut [T])
     requires { length s.old ≤ 512 }
-    ensures { s.new ≡ upto (length s.old) }
+    ensures { Counts T.from_gives s.new }
 {
-    let mut i = 0;
-    while i < s.len() {
-        s[i] = i as u32;
-        i += 1;
-    }
-}
-
-// Writes 0, 1, 2, .. in 16 bits.
-fn fill_nodes(s: &mut [u16])
-    requires { length s.old ≤ 512 }
-    ensures { s.new ≡ upto (length s.old) }
-{
-    let mut i = 0;
-    while i < s.len() {
-        s[i] = i as u16;
-        i += 1;
+    for i in 0..s.len() {
+        s[i] = T::from(i as u16);
     }
 }
 
 // The order of visiting in 16 bits.
+#[tactic(auto, using(crate::proofs::Counts::counted))]
 fn draw_nodes(s: &mut [u16], rng: u64) -> u64
     requires { length s.old ≤ 512 }
     ensures { order rng (length s.old) ≡ record { list = s.new; rng = result } }
 {
-    fill_nodes(s);
+    fill(s);
     shuffle(s, rng)
 }
 
-// Writes the numbers of `from` in 32 bits.
-fn widen(to: &mut [u32], from: &[u16])
-    requires { length to.old ≡ length from.now }
-    ensures { to.new ≡ from.now }
+// Writes the numbers of `nodes` in 32 bits.
+fn widen(to: &mut [u32], nodes: &[u16])
+    requires { length to.old ≡ length nodes.now }
+    ensures { to.new ≡ nodes.now }
 {
-    let mut i = 0;
-    while i < from.len() {
-        to[i] = from[i] as u32;
-        i += 1;
+    for i in 0..nodes.len() {
+        to[i] = u32::from(nodes[i]);
     }
 }
 

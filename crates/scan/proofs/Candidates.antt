@@ -1,15 +1,15 @@
 -- The candidates in rising order, taken one at a time as the lowest at or above a floor.
-use mathlib.Core.Path.{◌≡◌, refl, ap₂, ◌∙◌}
+use mathlib.Core.Path.{◌≡◌, refl, ap, ap₂, ◌∙◌}
 use mathlib.Core.Bool.{Bool, true, false, cond}
 use mathlib.Core.List.{List, [], ◌∷◌}
 use mathlib.Core.Logic.{inl, inr}
-use Prim.Native.Nat.{ℕ, zero, suc, ◌+◌, ◌<◌, ◌≤◌}
+use Rattle.std.specs.List.{fold}
+use Prim.Native.Nat.{ℕ, max, zero, suc, ◌+◌, ◌<◌, ◌≤◌}
 use native.Mathlib.Omega.{arith}
 use native.Mathlib.Numerals.{add-one}
 use borrow.Author.Tests.{ltb-true, ltb-false, lt-ltb, le-ltb, eqb-true, eqb-false}
 use lib.Dec.{ltb, eqb}
-use lib.ListN.{length, get_or, drop, drop_of_length-le}
-use lib.Seq.{drop-cons}
+use lib.ListN.{length, get_or}
 use lib.Ieee.{Float, nan, lt, of_bits}
 use Rattle.lists.specs.Lists.{Has}
 use Rattle.lists.proofs.Tests.{clash}
@@ -18,6 +18,7 @@ use Rattle.float.specs.Binary64.{zero64}
 use Rattle.map_state.specs.Network.{Network, row}
 use Rattle.map_state.specs.MapState.{MapState, stats_of, delta_move, delta_from}
 use Rattle.scan.specs.Scan.{insert_group, candidates, consider, scan_from, scan, highest_from, Answer, no_move}
+use Rattle.std.specs.Prelude.{Option, Some, None}
 use Rattle.scan.specs.Steps.{Next}
 use Rattle.map_state.specs.declared.ModuleStats.{ModuleStats}
 
@@ -139,32 +140,36 @@ module _ (n : Network) (s : MapState) (u : ℕ) (part : List ℕ) (ws : List Flo
   unfolding scan_up_from scan
   scan_start p q = rw (up_same 0 (candidates part ws) (rising part ws), p, q)
 
-  pub scan_on : (a a' : Answer) (f v : ℕ) → Next part ws f (length part) v → v < length part → a' ≡ consider n s u a (get_or part v 0) → scan_up_from n s u part ws a' (get_or part v 0 + 1) ≡ scan_up_from n s u part ws a f
+  pub scan_on : (a a' : Answer) (f v : ℕ) {r : Option ℕ} {z : Answer} → scan_up_from n s u part ws a f ≡ z → Next part ws f (length part) r → r ≡ Some v → a' ≡ consider n s u a (get_or part v 0) → scan_up_from n s u part ws a' (get_or part v 0 + 1) ≡ z
   unfolding scan_up_from scan_from
-  scan_on a a' f v x h e =
-      rw (
-        up_next f 0 (get_or part v 0) (candidates part ws) (rising part ws) (candidates_have part ws v h (x.near h)) (x.up h)
-            (each (λ y. f ≤ y → get_or part v 0 ≤ y) part ws (λ w p t q. (x.least w p t q).1)),
+  scan_on a a' f v g x i e =
+      let o = x.found v i in
+      (rw (
+        up_next f 0 (get_or part v 0) (candidates part ws) (rising part ws) (candidates_have part ws v o.0 o.1) o.2
+            (each (λ y. f ≤ y → get_or part v 0 ≤ y) part ws (λ w p t q. let l = x.least w p t q in let j : l.0 ≡ v = cc in (rw j at l.2))),
         e,
         add-one (get_or part v 0),
-      )
+      )) ∙ g
 
-  pub scan_end : (a : Answer) (f v : ℕ) → Next part ws f (length part) v → length part ≤ v → a ≡ scan_up_from n s u part ws a f
+  pub scan_end : (a : Answer) (f : ℕ) {r : Option ℕ} {z : Answer} → scan_up_from n s u part ws a f ≡ z → Next part ws f (length part) r → r ≡ None → a ≡ z
   unfolding scan_up_from scan_from
-  scan_end a f v x h = rw (up_none f (candidates part ws) (each (λ y. y < f) part ws (λ w p t. below (ltb (get_or part w 0) f) w p t refl)))
+  scan_end a f g x i = rw (up_none f (candidates part ws) (each (λ y. y < f) part ws (λ w p t. below (ltb (get_or part w 0) f) w p t refl))) at g
     where
       below : (b : Bool) (w : ℕ) → w < length part → lt zero64 (get_or ws w nan) ≡ true → ltb (get_or part w 0) f ≡ b → get_or part w 0 < f
       below true w p t q = ltb-true (get_or part w 0) f q
-      below false w p t q = let o = x.least w p t (ltb-false (get_or part w 0) f q) in absurd (omega arith)
+      below false w p t q = let l = x.least w p t (ltb-false (get_or part w 0) f q) in let j = l.1 in cc
 
 -- ---- the highest number
-pub highest_on : (m m' : ℕ) (part : List ℕ) (v : ℕ) → v < length part → m' ≡ cond (ltb m (get_or part v 0)) (get_or part v 0) m → highest_from m' (drop (v + 1) part) ≡ highest_from m (drop v part)
+highest_folded : (m : ℕ) (part : List ℕ) → fold max m part ≡ highest_from m part
 unfolding highest_from
-highest_on m m' part v h e = rw (e, add-one v, drop-cons part v 0 h)
+highest_folded m [] = refl
+highest_folded m (g ∷ gs) = highest_folded (max m g) gs ∙ ap (λ z. highest_from z gs) (go (ltb m g) refl) where
+  go : (b : Bool) → ltb m g ≡ b → max m g ≡ cond b g m
+  go true t = let s = ltb-true m g t in omega arith
+  go false t = let s = ltb-false m g t in omega arith
 
-pub highest_end : (m : ℕ) (part : List ℕ) (v : ℕ) → length part ≤ v → m ≡ highest_from m (drop v part)
-unfolding highest_from
-highest_end m part v h = rw (drop_of_length-le part {i = v} h)
+pub highest_is : (part : List ℕ) {r : ℕ} → r ≡ fold max 0 part → r ≡ highest_from 0 part
+highest_is part e = e ∙ highest_folded 0 part
 
 -- the change, with the two groups at hand
 pub delta_move_is : (n : Network) (s : MapState) (u h : ℕ) {o p : ModuleStats} {x : Float} → x ≡ delta_from n s.partition s.q_sum u h o p → o ≡ stats_of s (get_or s.partition u 0) → p ≡ stats_of s h → x ≡ delta_move n s u h

@@ -1,22 +1,22 @@
 // The scan of a node: the best group among its neighbours', and the isolation test.
-//
-// The slices are those of crate `map_state`.
 #![tactic(auto)]
 
-ghost use Rattle.std.specs.Prelude.{◌≡◌, ◌+◌, ◌-◌, ◌*◌, ◌<◌, cond, ltb, length};
-ghost use Rattle.map_state.specs.Steps.{net_of, state_of, AtNode};
-ghost use Rattle.scan.specs.Scan.{best_delta, better, scan, highest_from, next_free_module, isolate};
-ghost use Rattle.scan.specs.Steps.{answer_of, Next, AtPair, Considered, Testable};
+ghost use Rattle.std.specs.Prelude.{◌≡◌, ◌+◌, ◌-◌, ◌*◌, ◌<◌, length, get_or};
+ghost use Rattle.map_state.specs.Steps.{AtNode};
+ghost use Rattle.scan.specs.Scan.{best_delta, better, consider, scan, highest_from, next_free_module, isolate};
+ghost use Rattle.scan.specs.Steps.{answer_of, Next, AtPair, Testable};
 
-use map_state::ModuleStats;
+use map_state::{MapState, ModuleStats, Network};
 
 // No move, or the group to move to and the change of codelength.
-#[derive(Clone, Copy)]
+// Kept as it is: the project's rules ask for this enum with these two cases.
+#[derive(Clone, Copy, Debug, PartialEq)]
 pub enum Scan {
     Stay,
     Move(u32, f64),
 }
 
+#[tactic(auto, unfolding(crate::specs::Scan::best_delta, crate::specs::Steps::answer_of))]
 fn best_delta(a: Scan) -> f64
     ensures { result ≡ best_delta (answer_of a) }
 {
@@ -26,134 +26,88 @@ fn best_delta(a: Scan) -> f64
     }
 }
 
+#[tactic(auto, unfolding(crate::specs::Scan::better, crate::specs::Steps::answer_of))]
 fn better(a: Scan, h: u32, d: f64) -> Scan
     ensures { answer_of result ≡ better (answer_of a) h d }
 {
     let limit = best_delta(a);
     if d < limit - 1e-15 {
-        return Scan::Move(h, d);
+        Scan::Move(h, d)
+    } else {
+        a
     }
-    a
 }
 
 // One neighbour more.
-fn lower_candidate(partition: &[u32], row: &[f64], floor: usize, r: usize, v: usize) -> usize
-    requires { (length row.now ≡ length partition.now) × (v < length partition.now) × Next partition.now row.now floor v r }
+fn lower_candidate(
+    partition: &[u32],
+    row: &[f64],
+    floor: usize,
+    best: Option<usize>,
+    v: usize,
+) -> Option<usize>
+    requires { (length row.now ≡ length partition.now) × (v < length partition.now) × Next partition.now row.now floor v best }
     ensures { Next partition.now row.now floor (v + 1) result }
 {
-    if 0.0 < row[v] {
-        let x = lists::wide(partition[v]);
-        if x < floor {
-            return r;
+    let p = partition[v];
+    if 0.0 < row[v] && floor <= p as usize {
+        match best {
+            Some(r) if partition[r] <= p => best,
+            _ => Some(v),
         }
-        if r < partition.len() {
-            let y = lists::wide(partition[r]);
-            if x < y {
-                return v;
-            }
-            return r;
-        }
-        return v;
+    } else {
+        best
     }
-    r
 }
 
-// A neighbour in the lowest group at or above `floor`, or the number of nodes.
-fn next_candidate(partition: &[u32], row: &[f64], floor: usize) -> usize
+// A neighbour in the lowest group at or above `floor`, if there is one.
+fn next_candidate(partition: &[u32], row: &[f64], floor: usize) -> Option<usize>
     requires { length row.now ≡ length partition.now }
     ensures { Next partition.now row.now floor (length partition.now) result }
 {
-    let mut r = partition.len();
-    let mut v = 0;
-    while v < partition.len() {
-        r = lower_candidate(partition, row, floor, r, v);
-        v += 1;
+    let mut best = None;
+    for v in 0..partition.len() {
+        best = lower_candidate(partition, row, floor, best, v);
     }
-    r
+    best
 }
 
 // The group of v, against the best so far; `src` is u's own group.
-fn consider(
-    table: &[f64],
-    stride: usize,
-    strength: &[f64],
-    d: f64,
-    partition: &[u32],
-    first: &[u32],
-    exits: &[f64],
-    strengths: &[f64],
-    q: f64,
-    u: usize,
-    src: ModuleStats,
-    v: usize,
-    a: Scan,
-) -> Scan
-    requires { AtPair table.now stride strength.now partition.now first.now exits.now strengths.now u src v }
-    ensures { Considered (net_of table.now stride strength.now d) partition.now exits.now strengths.now q u v a result }
+#[tactic(auto, unfolding(crate::specs::Scan::consider))]
+fn consider(net: &Network, s: &MapState, u: usize, src: ModuleStats, v: usize, a: Scan) -> Scan
+    requires { AtPair net.now s.now u src v }
+    ensures { answer_of result ≡ consider net.now s.now u (answer_of a) (get_or s.now.partition v 0) }
 {
-    let h = partition[v];
-    if h == partition[u] {
+    let h = s.partition()[v];
+    if h == s.partition()[u] {
         return a;
     }
-    let p = map_state::own_stats(partition, first, exits, strengths, v);
-    better(
-        a,
-        h,
-        map_state::delta_move(table, stride, strength, d, partition, q, u, h, src, p),
-    )
+    let dest = s.own_stats(v);
+    better(a, h, s.delta_move(net, u, h, src, dest))
 }
 
 // The scan of node u: the candidates in rising internal number.
-pub fn scan_node(
-    table: &[f64],
-    stride: usize,
-    strength: &[f64],
-    d: f64,
-    partition: &[u32],
-    first: &[u32],
-    exits: &[f64],
-    strengths: &[f64],
-    q: f64,
-    u: usize,
-) -> Scan
-    requires { AtNode table.now stride strength.now partition.now first.now exits.now strengths.now u }
-    ensures { answer_of result ≡ scan (net_of table.now stride strength.now d) (state_of partition.now exits.now strengths.now q) u }
+pub fn scan_node(net: &Network, s: &MapState, u: usize) -> Scan
+    requires { AtNode net.now s.now u }
+    ensures { answer_of result ≡ scan net.now s.now u }
 {
-    let s = u * stride;
-    let e = s + partition.len();
-    let src = map_state::own_stats(partition, first, exits, strengths, u);
+    let partition = s.partition();
+    let row = net.row(u);
+    let src = s.own_stats(u);
     let mut a = Scan::Stay;
     let mut floor = 0;
-    let mut v = next_candidate(partition, &table[s..e], floor);
-    while v < partition.len() {
-        a = consider(
-            table, stride, strength, d, partition, first, exits, strengths, q, u, src, v, a,
-        );
-        floor = lists::wide(partition[v]) + 1;
-        v = next_candidate(partition, &table[s..e], floor);
+    while let Some(v) = next_candidate(partition, row, floor) {
+        a = consider(net, s, u, src, v, a);
+        floor = partition[v] as usize + 1;
     }
     a
 }
 
-fn higher(m: u32, x: u32) -> u32
-    ensures { result ≡ cond (ltb m x) x m }
-{
-    if m < x {
-        return x;
-    }
-    m
-}
-
+#[tactic(auto, using(crate::proofs::Candidates::highest_is))]
 fn highest(partition: &[u32]) -> u32
     ensures { result ≡ highest_from 0 partition.now }
 {
-    let mut m: u32 = 0;
-    let mut v = 0;
-    while v < partition.len() {
-        m = higher(m, partition[v]);
-        v += 1;
-    }
-    m
+    partition.iter().fold(0, |m, &p| m.max(p))
 }
 
 fn next_free_module(partition: &[u32]) -> u32
@@ -164,27 +118,18 @@ fn next_free_module(partition: &[u32]) -> u32
 }
 
 // The isolation test of node u.
-pub fn isolate(
-    table: &[f64],
-    stride: usize,
-    strength: &[f64],
-    d: f64,
-    partition: &[u32],
-    first: &[u32],
-    exits: &[f64],
-    strengths: &[f64],
-    q: f64,
-    u: usize,
-) -> Scan
-    requires { Testable table.now stride strength.now partition.now first.now exits.now strengths.now u }
-    ensures { answer_of result ≡ isolate (net_of table.now stride strength.now d) (state_of partition.now exits.now strengths.now q) u }
+#[tactic(auto, unfolding(crate::specs::Scan::isolate, crate::specs::Steps::answer_of))]
+pub fn isolate(net: &Network, s: &MapState, u: usize) -> Scan
+    requires { Testable net.now s.now u }
+    ensures { answer_of result ≡ isolate net.now s.now u }
 {
-    let h = next_free_module(partition);
-    let src = map_state::own_stats(partition, first, exits, strengths, u);
-    let p = map_state::find_stats(partition, exits, strengths, h);
-    let c = map_state::delta_move(table, stride, strength, d, partition, q, u, h, src, p);
+    let h = next_free_module(s.partition());
+    let src = s.own_stats(u);
+    let dest = s.find_stats(h);
+    let c = s.delta_move(net, u, h, src, dest);
     if c < -1e-15 {
-        return Scan::Move(h, c);
+        Scan::Move(h, c)
+    } else {
+        Scan::Stay
     }
-    Scan::Stay
 }

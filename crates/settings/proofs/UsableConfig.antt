@@ -9,11 +9,11 @@ use lib.Ieee.{Float, le, lt, of_bits}
 use Rattle.lists.proofs.Tests.{or_left, or_right}
 use Rattle.float.specs.Binary64.{zero64, whole64, finite}
 use Rattle.float.proofs.Order.{le_is, finite_number}
+use Rattle.std.specs.Prelude.{Ok}
 -- Named so that the examples are checked before these lemmas.
 use Rattle.settings.specs.Examples
 use Rattle.settings.specs.declared.config.Config.{Config}
 use Rattle.settings.specs.declared.refusal.Refusal.TheVariants.{R1, R2, MinStayingTime, MaxTimeBetween, TimeBounds, MinSize, MinSpatialResolution, ResolutionBounds}
-use Rattle.settings.specs.declared.refusal.Checked.TheVariants.{Accepted}
 use Rattle.settings.specs.Settings.{unusable, least, negative, out_of_bounds, check_time_bounds, check_resolution, check_config}
 use Rattle.settings.proofs.Turns.{passed, turn_first, turn_rest}
 
@@ -56,7 +56,7 @@ between : (a b : Bool) → (a && b) ≡ false → a ≡ true → b ≡ false
 between true b h k = h
 between false b h k = absurd (false≢true k)
 
-resolution : (x : Float) → check_resolution x ≡ Accepted → Resolution x
+resolution : (x : Float) → check_resolution x ≡ Ok tt → Resolution x
 unfolding check_resolution negative out_of_bounds
 resolution x h =
     let n = passed (negative x) MinSpatialResolution (turn_first _ _ h) in
@@ -68,7 +68,7 @@ resolution x h =
       to_largest = or_right (lt zero64 x && lt x least) (lt (whole64 1000000) x) o;
     }
 
-pub config_accepted : (c : Config) → check_config c ≡ Accepted → UsableConfig c
+pub config_accepted : (c : Config) → check_config c ≡ Ok tt → UsableConfig c
 unfolding check_config
 config_accepted c h =
     record {
@@ -83,7 +83,7 @@ config_accepted c h =
       resolution = resolution c.min_spatial_resolution (turn_first _ _ (turn_rest _ _ (turn_rest _ _ (turn_rest _ _ h))));
     }
   where
-    bounds : check_time_bounds c ≡ Accepted
+    bounds : check_time_bounds c ≡ Ok tt
     bounds = turn_first _ _ (turn_rest _ _ (turn_rest _ _ h))
 
     s : Positive c.min_staying_time

@@ -1,12 +1,10 @@
 -- The check of the settings, run at a few values: the edges of 23 and 24, and which cause comes first.
-use Rattle.std.specs.Prelude.{◌≡◌, refl, ℕ, Float}
+use Rattle.std.specs.Prelude.{◌≡◌, refl, ℕ, Float, Ok, Err}
 use Rattle.std.specs.Float.{nan, binary64}
 use Rattle.std.specs.Float.Ieee.{neg, of_int, of_bits, le, lt}
 use Rattle.float.specs.Binary64.{whole64, zero64, infinity64, finite}
 use Rattle.settings.specs.declared.refusal.Refusal.TheVariants.{MinStayingTime, TimeBounds, MinSize, MinSpatialResolution, ResolutionBounds}
-use Rattle.settings.specs.declared.refusal.Checked.{Checked}
-use Rattle.settings.specs.declared.refusal.Checked.TheVariants.{Accepted, Refused}
-use Rattle.settings.specs.Checks.{refuse_if, first_of, in_turn}
+use Rattle.settings.specs.Checks.{Checked, refuse_if, first_of, in_turn}
 use Rattle.settings.specs.Settings.{unusable, least, negative, out_of_bounds, check_time_bounds, check_resolution, check_config}
 use Rattle.settings.specs.Tries.{settings_with}
 
@@ -20,58 +18,58 @@ unfolding checked
 step = checked 300 86400 2
 
 -- Those of the rules' list.
-usual : checked 300 86400 2 zero64 ≡ Accepted
+usual : checked 300 86400 2 zero64 ≡ Ok tt
 unfolding checked
 usual = refl
 
-zero_stay : checked 0 86400 2 zero64 ≡ Refused MinStayingTime
+zero_stay : checked 0 86400 2 zero64 ≡ Err MinStayingTime
 unfolding checked
 zero_stay = refl
 
 -- The first cause of two.
-equal_bounds : checked 300 300 1 zero64 ≡ Refused TimeBounds
+equal_bounds : checked 300 300 1 zero64 ≡ Err TimeBounds
 unfolding checked
 equal_bounds = refl
 
 -- 23: NaN, an infinity, below zero; -0.0 is zero.
-step_nan : step nan ≡ Refused MinSpatialResolution
+step_nan : step nan ≡ Err MinSpatialResolution
 unfolding step
 step_nan = refl
 
-step_infinite : step infinity64 ≡ Refused MinSpatialResolution
+step_infinite : step infinity64 ≡ Err MinSpatialResolution
 unfolding step
 step_infinite = refl
 
-step_below_zero : step (neg (of_bits binary64 1)) ≡ Refused MinSpatialResolution
+step_below_zero : step (neg (of_bits binary64 1)) ≡ Err MinSpatialResolution
 unfolding step
 step_below_zero = refl
 
-step_minus_zero : step (neg zero64) ≡ Accepted
+step_minus_zero : step (neg zero64) ≡ Ok tt
 unfolding step
 step_minus_zero = refl
 
 -- 24: just below 2^-10, and not at it; not at 10^6, and just above it.
-step_above_zero : step (of_bits binary64 1) ≡ Refused ResolutionBounds
+step_above_zero : step (of_bits binary64 1) ≡ Err ResolutionBounds
 unfolding step
 step_above_zero = refl
 
-step_below_least : step (of_bits binary64 0x3F4F_FFFF_FFFF_FFFF) ≡ Refused ResolutionBounds
+step_below_least : step (of_bits binary64 0x3F4F_FFFF_FFFF_FFFF) ≡ Err ResolutionBounds
 unfolding step
 step_below_least = refl
 
-step_least : step least ≡ Accepted
+step_least : step least ≡ Ok tt
 unfolding step
 step_least = refl
 
-step_largest : step (whole64 1000000) ≡ Accepted
+step_largest : step (whole64 1000000) ≡ Ok tt
 unfolding step
 step_largest = refl
 
-step_above_largest : step (of_bits binary64 0x412E_8480_0000_0001) ≡ Refused ResolutionBounds
+step_above_largest : step (of_bits binary64 0x412E_8480_0000_0001) ≡ Err ResolutionBounds
 unfolding step
 step_above_largest = refl
 
 -- 6 before 23.
-size_first : checked 300 86400 1 nan ≡ Refused MinSize
+size_first : checked 300 86400 1 nan ≡ Err MinSize
 unfolding checked
 size_first = refl

@@ -5,8 +5,7 @@ use Rattle.std.specs.Float.Ieee.{le, lt, of_bits}
 use Rattle.float.specs.Binary64.{zero64, whole64, finite}
 use Rattle.settings.specs.declared.config.Config.{Config}
 use Rattle.settings.specs.declared.refusal.Refusal.TheVariants.{R1, R2, MinStayingTime, MaxTimeBetween, TimeBounds, MinSize, MinSpatialResolution, ResolutionBounds}
-use Rattle.settings.specs.declared.refusal.Checked.{Checked}
-use Rattle.settings.specs.Checks.{refuse_if, in_turn}
+use Rattle.settings.specs.Checks.{Checked, refuse_if, in_turn}
 
 -- Not finite or <= 0.
 unfoldable pub unusable : Float → Bool

@@ -2,9 +2,9 @@
 ghost use Rattle.std.specs.Prelude.{◌≡◌};
 ghost use Rattle.settings.specs.Settings.{unusable, negative, out_of_bounds, check_config, check_time_bounds, check_resolution};
 
-use crate::refusal::{Checked, Refusal};
+use crate::refusal::Refusal;
 
-#[derive(Clone, Copy)]
+#[derive(Clone, Copy, Debug, PartialEq)]
 pub struct Config {
     pub r1: f64,
     pub r2: f64,
@@ -17,83 +17,74 @@ pub struct Config {
 }
 
 // Whether x is not finite or <= 0.
+#[tactic(auto, unfolding(crate::specs::Settings::unusable))]
 fn unusable(x: f64) -> bool
     ensures { result ≡ unusable x }
 {
-    if !float::is_finite(x) {
-        return true;
-    }
-    x <= 0.0
+    !float::is_finite(x) || x <= 0.0
 }
 
 // 3 to 6.
-fn check_time_bounds(c: Config) -> Checked
+#[tactic(auto, unfolding(crate::specs::Settings::check_time_bounds, crate::proofs::Turns::turns))]
+fn check_time_bounds(c: Config) -> Result<(), Refusal>
     ensures { result ≡ check_time_bounds c }
 {
     if unusable(c.min_staying_time) {
-        return Checked::Refused(Refusal::MinStayingTime);
+        return Err(Refusal::MinStayingTime);
     }
     if unusable(c.max_time_between) {
-        return Checked::Refused(Refusal::MaxTimeBetween);
+        return Err(Refusal::MaxTimeBetween);
     }
     if c.max_time_between <= c.min_staying_time {
-        return Checked::Refused(Refusal::TimeBounds);
+        return Err(Refusal::TimeBounds);
     }
     if c.min_size <= 1 {
-        return Checked::Refused(Refusal::MinSize);
+        return Err(Refusal::MinSize);
     }
-    Checked::Accepted
+    Ok(())
 }
 
 // Whether x is not finite or below zero.
+#[tactic(auto, unfolding(crate::specs::Settings::negative))]
 fn negative(x: f64) -> bool
     ensures { result ≡ negative x }
 {
-    if !float::is_finite(x) {
-        return true;
-    }
-    x < 0.0
+    !float::is_finite(x) || x < 0.0
 }
 
 // Whether x lies between zero and 2^-10, or above 10^6.
+#[tactic(auto, unfolding(crate::specs::Settings::out_of_bounds))]
 fn out_of_bounds(x: f64) -> bool
     ensures { result ≡ out_of_bounds x }
 {
-    if 1000000.0 < x {
-        return true;
-    }
-    if x < 0.0009765625 {
-        return 0.0 < x;
-    }
-    false
+    (0.0 < x && x < 0.0009765625) || 1000000.0 < x
 }
 
 // 23 and 24.
-fn check_resolution(res: f64) -> Checked
+#[tactic(auto, unfolding(crate::specs::Settings::check_resolution, crate::proofs::Turns::turns))]
+fn check_resolution(res: f64) -> Result<(), Refusal>
     ensures { result ≡ check_resolution res }
 {
     if negative(res) {
-        return Checked::Refused(Refusal::MinSpatialResolution);
+        return Err(Refusal::MinSpatialResolution);
     }
     if out_of_bounds(res) {
-        return Checked::Refused(Refusal::ResolutionBounds);
+        return Err(Refusal::ResolutionBounds);
     }
-    Checked::Accepted
+    Ok(())
 }
 
 // 1 to 6, 23, 24: the check of the settings.
-pub fn check_config(c: Config) -> Checked
+#[tactic(auto, unfolding(crate::specs::Settings::check_config, crate::proofs::Turns::turns))]
+pub fn check_config(c: Config) -> Result<(), Refusal>
     ensures { result ≡ check_config c }
 {
     if unusable(c.r1) {
-        return Checked::Refused(Refusal::R1);
+        return Err(Refusal::R1);
     }
     if unusable(c.r2) {
-        return Checked::Refused(Refusal::R2);
+        return Err(Refusal::R2);
     }
-    let times = check_time_bounds(c);
-    if crate::refusal::is_refused(times) {
-        return times;
-    }
+    check_time_bounds(c)?;
     check_resolution(c.min_spatial_resolution)
 }

@@ -1,10 +1,9 @@
 // Why no labels are given: a case for each cause, in the order of the rules' numbers.
 ghost use Rattle.std.specs.Prelude.{◌≡◌};
 ghost use Rattle.settings.specs.Refusals.{number_of, trace_of};
-ghost use Rattle.settings.specs.Checks.{is_refused};
 
 // Those about one trace carry its number.
-#[derive(Clone, Copy)]
+#[derive(Clone, Copy, Debug, PartialEq, Eq)]
 pub enum Refusal {
     R1,
     R2,
@@ -30,13 +29,6 @@ pub enum Refusal {
     Text,
     MinSpatialResolution,
     ResolutionBounds,
-}
-
-// What a check answers.
-#[derive(Clone, Copy)]
-pub enum Checked {
-    Accepted,
-    Refused(Refusal),
 }
 
 // The rules' number of a refusal.
@@ -76,21 +68,12 @@ pub fn trace(e: Refusal) -> usize
     ensures { result ≡ trace_of e }
 {
     match e {
-        Refusal::EmptyTrace(k) => k,
-        Refusal::Coordinate(k) => k,
-        Refusal::Timestamp(k) => k,
-        Refusal::PartlyTimed(k) => k,
-        Refusal::TimeOrder(k) => k,
-        Refusal::CoordinateSize(k) => k,
+        Refusal::EmptyTrace(k)
+        | Refusal::Coordinate(k)
+        | Refusal::Timestamp(k)
+        | Refusal::PartlyTimed(k)
+        | Refusal::TimeOrder(k)
+        | Refusal::CoordinateSize(k) => k,
         _ => 0,
-    }
-}
-
-pub fn is_refused(c: Checked) -> bool
-    ensures { result ≡ is_refused c }
-{
-    match c {
-        Checked::Accepted => false,
-        Checked::Refused(_) => true,
     }
 }

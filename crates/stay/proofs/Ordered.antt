@@ -1,17 +1,18 @@
 -- Ordered insertion: a list in order stays in order, and in such a list the place of an element can be found by halving.
 use mathlib.Core.Path.{◌≡◌, refl, sym, ap, ap₂, ◌∙◌, subst}
-use mathlib.Core.Bool.{Bool, true, false, ◌&&◌, cond, true≢false}
+use mathlib.Core.Bool.{Bool, true, false, ◌&&◌, cond}
 use mathlib.Core.List.{List, [], ◌∷◌, ◌++◌}
 use Prim.Native.Nat.{ℕ, zero, suc, ◌≤◌, ◌<◌}
 use native.Mathlib.Nat.{le_of_suc-le-suc}
 use native.Mathlib.Omega.{arith}
 use lib.ListN.{length, take, drop, get_or, length-append, take-append-drop}
-use lib.Ieee.{Float, nan, inf, fin, is_nan, ne, eq, add, mul, of_bits}
-use lib.Ieee.Compare.{differs_from_itself}
+use lib.Ieee.{Float, nan, add, mul, of_bits}
+use Rattle.std.specs.List.Sorted.{IsPartitionedBy, IsPartitionPoint}
+use Rattle.lists.proofs.Maps.{get_or_inside}
 use Rattle.lists.proofs.Tests.{and_left, and_right}
 use Rattle.stay.specs.Ordered.{at_most, insertion_point, insert_ordered, ordered_from, ordered, median}
 use Rattle.stay.specs.StepsOrdered.{at_most_first, in_order}
-use Rattle.stay.proofs.AtMost.{nan_above, at_most_trans, at_most_other}
+use Rattle.stay.proofs.AtMost.{at_most_trans, at_most_other}
 
 -- ---- what stands where
 
@@ -99,7 +100,7 @@ in_order_first x (y ∷ ys) h (suc k) l =
     at_most_trans x y (get_or ys k nan) (and_left (at_most x y) (in_order (y ∷ ys)) h) (in_order_first y ys (and_right (at_most x y) (in_order (y ∷ ys)) h) k (omega arith))
 
 -- what is at most e stands before what is not
-pub before : (e : Float) (xs : List Float) → in_order xs ≡ true → (j k : ℕ) → j ≤ k → k < length xs → at_most (get_or xs k nan) e ≡ true → at_most (get_or xs j nan) e ≡ true
+before : (e : Float) (xs : List Float) → in_order xs ≡ true → (j k : ℕ) → j ≤ k → k < length xs → at_most (get_or xs k nan) e ≡ true → at_most (get_or xs j nan) e ≡ true
 unfolding in_order
 before e [] h j k l m t = absurd (omega arith)
 before e (x ∷ xs) h zero zero l m t = t
@@ -107,14 +108,13 @@ before e (x ∷ xs) h zero (suc k) l m t = at_most_trans x (get_or xs k nan) e (
 before e (x ∷ xs) h (suc j) zero l m t = absurd (omega arith)
 before e (x ∷ xs) h (suc j) (suc k) l m t = before e xs (and_right (at_most_first x xs) (in_order xs) h) j k (omega arith) (omega arith) t
 
-pub after : (e : Float) (xs : List Float) → in_order xs ≡ true → (j k : ℕ) → j ≤ k → k < length xs → at_most (get_or xs j nan) e ≡ false → at_most (get_or xs k nan) e ≡ false
-after e xs h j k l m f = go (at_most (get_or xs k nan) e) refl
-  where
-    go : (t : Bool) → at_most (get_or xs k nan) e ≡ t → t ≡ false
-    go true p = sym (before e xs h j k l m p) ∙ f
-    go false p = refl
+-- what the kit's `partition_point` asks of such a list, and what it tells
+pub in_order_parts : (e : Float) (xs : List Float) → in_order xs ≡ true → IsPartitionedBy (λ x. at_most x e) xs
+in_order_parts e xs h i j d k l m =
+    subst (λ (x : Float). at_most x e ≡ true) (sym (get_or_inside xs i d nan (omega arith)))
+    (before e xs h i j k l (subst (λ (x : Float). at_most x e ≡ true) (get_or_inside xs j d nan l) m))
 
-pub position_is : (e : Float) (xs : List Float) (p : ℕ) → p ≤ length xs → ((k : ℕ) → k < p → at_most (get_or xs k nan) e ≡ true)
+position_is : (e : Float) (xs : List Float) (p : ℕ) → p ≤ length xs → ((k : ℕ) → k < p → at_most (get_or xs k nan) e ≡ true)
     → ((k : ℕ) → p ≤ k → k < length xs → at_most (get_or xs k nan) e ≡ false) → p ≡ insertion_point e xs
 unfolding insertion_point
 position_is e [] p h a b = omega arith
@@ -123,23 +123,8 @@ position_is e (x ∷ xs) (suc q) h a b =
     ap suc (position_is e xs q (le_of_suc-le-suc h) (λ k g. a (suc k) (omega arith)) (λ k g l. b (suc k) (omega arith) (omega arith)))
     ∙ sym (ap (λ (t : Bool). cond t (suc (insertion_point e xs)) 0) (a 0 (omega arith)))
 
--- ---- the tests of the code
-
--- NaN goes last
-pub nan_last : (e : Float) (xs : List Float) → is_nan e ≡ true → length xs ≡ insertion_point e xs
-unfolding insertion_point
-nan_last e [] h = refl
-nan_last e (x ∷ xs) h = ap suc (nan_last e xs h) ∙ sym (ap (λ (t : Bool). cond t (suc (insertion_point e xs)) 0) (nan_above x e h))
-
-pub differs_nan : (e : Float) → ne e e ≡ true → is_nan e ≡ true
-unfolding is_nan
-differs_nan e h = ap is_nan (differs_from_itself e (subst lib.Dec.T (sym h) tt))
-
-pub agrees_number : (e : Float) → ne e e ≡ false → is_nan e ≡ false
-unfolding is_nan ne eq
-agrees_number nan h = absurd (true≢false h)
-agrees_number (inf s) h = refl
-agrees_number (fin s m e) h = refl
+pub position_parts : (e : Float) (xs : List Float) (p : ℕ) → p ≤ length xs → IsPartitionPoint (λ x. at_most x e ≡ true) (λ x. at_most x e ≡ false) xs p → p ≡ insertion_point e xs
+position_parts e xs p h q = position_is e xs p h (λ k g. q.0 k nan (omega arith) g) (λ k g l. q.1 k nan g l)
 
 -- the median of no elements
 pub median_none : (xs : List Float) → length xs ≡ 0 → nan ≡ median xs

@@ -6,6 +6,7 @@ use distance::Point;
 use settings::config::Config;
 
 // The stays of all traces: how many there are; in `events` the number of each fix's stay; in the last two quarters of `work` the medians.
+#[tactic(auto, using(trace::proofs::Parts::total_drop))]
 pub fn all_stays(
     xs: &[f64],
     ys: &[f64],
@@ -21,9 +22,8 @@ pub fn all_stays(
 {
     let mut found = 0;
     let mut at = 0;
-    let mut k = 0;
-    while k < lens.len() {
-        let end = at + lens[k] as usize;
+    for &len in lens {
+        let end = at + len as usize;
         found += crate::stays(
             &xs[at..end],
             &ys[at..end],
@@ -35,7 +35,6 @@ pub fn all_stays(
             &mut events[at..end],
         );
         at = end;
-        k += 1;
     }
     found
 }

@@ -16,10 +16,17 @@ use distance::Point;
 use settings::config::Config;
 
 // The open group: where it starts, and how many stays are before it.
-#[derive(Clone, Copy)]
+#[derive(Clone, Copy, Debug, PartialEq, Eq)]
 pub struct Open {
     pub start: usize,
     pub stays: usize,
+}
+
+// The times of a trace, which are looked at only where all are marked.
+#[derive(Clone, Copy)]
+struct Times<'a> {
+    at: &'a [f64],
+    timed: bool,
 }
 
 // The place past the elements that are at most elem, by halving.
@@ -27,120 +34,98 @@ fn insertion_point(s: &[f64], elem: f64) -> usize
     requires { in_order s.now ≡ true }
     ensures { result ≡ insertion_point elem s.now }
 {
-    if elem != elem {
-        return s.len();
-    }
-    let mut lo: usize = 0;
-    let mut hi: usize = s.len();
-    while lo < hi {
-        let mid = lo + (hi - lo) / 2;
-        if s[mid] <= elem {
-            lo = mid + 1;
-        } else {
-            hi = mid;
-        }
-    }
-    lo
+    s.partition_point(|&x| x <= elem || elem.is_nan())
 }
 
 // elem at the place `at`, and what stood from there on up by one: the last falls off.
+#[tactic(auto, using(crate::proofs::Shift::shift_is))]
 fn shift_in(s: &mut [f64], at: usize, elem: f64)
     requires { at < length s.old }
     ensures { s.new ≡ shifted at elem s.old }
 {
-    let mut j = s.len() - 1;
-    while at < j {
-        s[j] = s[j - 1];
-        j -= 1;
-    }
+    s.copy_within(at..s.len() - 1, at + 1);
     s[at] = elem;
 }
 
 // elem into the first len elements, which are in order, behind its equals.
+#[tactic(auto, using(crate::proofs::Shift::inserted))]
 pub fn insert_ordered(arr: &mut [f64], len: usize, elem: f64)
     requires len_in_bounds { len < length arr.old }
     requires arr_value { in_order (take len arr.old) ≡ true }
     ensures { arr.new ≡ insert_ordered elem (take len arr.old) ++ drop (len + 1) arr.old }
 {
-    let p = insertion_point(&arr[0..len], elem);
-    let e = len + 1;
-    shift_in(&mut arr[0..e], p, elem);
+    let p = insertion_point(&arr[..len], elem);
+    shift_in(&mut arr[..len + 1], p, elem);
 }
 
 // The median of elements in order; NaN of none.
+#[tactic(auto, unfolding(crate::specs::Ordered::median))]
 pub fn median(s: &[f64]) -> f64
     ensures { result ≡ median s.now }
 {
     let n = s.len();
     if n == 0 {
-        return 0.0 / 0.0;
+        return f64::NAN;
     }
-    let a = (n - 1) / 2;
-    let b = n / 2;
-    0.5 * (s[a] + s[b])
+    0.5 * (s[(n - 1) / 2] + s[n / 2])
 }
 
 // p into the first len elements of the first two parts of the work slice, which are of length q.
+#[tactic(auto, using(crate::proofs::Regions::second_kept, lists::proofs::Parts::part_length), unfolding(crate::specs::StepsRegions::insert_both, crate::specs::StepsRegions::insert_in, lists::specs::StepsParts::put))]
 fn insert_both(work: &mut [f64], q: usize, len: usize, p: Point)
     requires { CanInsert q len work.old }
     ensures { work.new ≡ insert_both q len p.x p.y work.old }
 {
-    let x = p.x;
-    let y = p.y;
-    let e = q + q;
-    insert_ordered(&mut work[0..q], len, x);
-    insert_ordered(&mut work[q..e], len, y);
+    insert_ordered(&mut work[..q], len, p.x);
+    insert_ordered(&mut work[q..q + q], len, p.y);
 }
 
 // The median of the first len elements of these parts.
+#[tactic(auto, unfolding(crate::specs::StepsRegions::middle_in))]
 fn middle(work: &[f64], q: usize, len: usize) -> Point
     requires { (len ≤ q) × (q + q ≤ length work.now) }
     ensures { result ≡ middle_in q len work.now }
 {
-    let e = q + len;
-    let x = median(&work[0..len]);
-    let y = median(&work[q..e]);
-    Point { x: x, y: y }
-}
-
-// The time at b less that at a, where the trace is timed.
-fn elapsed(times: &[f64], timed: bool, a: usize, b: usize) -> f64
-    requires { (a < length times.now) × (b < length times.now) }
-    ensures { result ≡ elapsed timed times.now a b }
-{
-    if timed {
-        return times[b] - times[a];
+    Point {
+        x: median(&work[..len]),
+        y: median(&work[q..q + len]),
     }
-    0.0
 }
 
-// Whether a fix at distance d, a time of gap after the last, joins.
-fn joins(timed: bool, s: Config, d: f64, gap: f64) -> bool
-    ensures { result ≡ join_test timed s d gap }
-{
-    if d <= s.r1 {
-        if timed {
-            return gap <= s.max_time_between;
+impl Times<'_> {
+    // The time at b less that at a, where the trace is timed.
+    #[tactic(auto, unfolding(crate::specs::Steps::elapsed))]
+    fn elapsed(self, a: usize, b: usize) -> f64
+        requires { (a < length self.at.now) × (b < length self.at.now) }
+        ensures { result ≡ elapsed self.entry.timed self.entry.at.now a b }
+    {
+        if self.timed {
+            self.at[b] - self.at[a]
+        } else {
+            0.0
         }
-        return true;
     }
-    false
+
+    // Whether a fix at distance d, a time of gap after the last, joins.
+    #[tactic(auto, unfolding(crate::specs::Steps::join_test))]
+    fn joins(self, s: Config, d: f64, gap: f64) -> bool
+        ensures { result ≡ join_test self.entry.timed s d gap }
+    {
+        d <= s.r1 && (!self.timed || gap <= s.max_time_between)
+    }
+
+    // Whether a closed group of n fixes over a time of span is a stay.
+    #[tactic(auto, unfolding(crate::specs::Steps::stay_test))]
+    fn is_stay(self, s: Config, n: usize, span: f64) -> bool
+        ensures { result ≡ stay_test self.entry.timed s n span }
+    {
+        s.min_size <= n && (!self.timed || s.min_staying_time <= span)
+    }
 }
 
-// Whether a closed group of n fixes over a time of span is a stay.
-fn is_stay(timed: bool, s: Config, n: usize, span: f64) -> bool
-    ensures { result ≡ stay_test timed s n span }
-{
-    if s.min_size <= n {
-        if timed {
-            return s.min_staying_time <= span;
-        }
-        return true;
-    }
-    false
-}
-
+// Kept as it is: a struct that held the lent slices `work` and `events` would need contracts on its borrows, which are no plainer.
 // The group o closed before fix i, as a stay with the median m or as none.
+#[tactic(auto, using(crate::proofs::States::kept_stay, crate::proofs::States::kept_none))]
 fn keep(
     work: &mut [f64],
     events: &mut [i32],
@@ -153,30 +138,24 @@ fn keep(
     requires { Room q i o (length work.old) (length events.old) }
     ensures { state_of q i work.new events.new result ≡ closed_as ok m i (state_of q i work.old events.old o) }
 {
-    let start = o.start;
-    let stays = o.stays;
     if ok {
-        lists::fill(&mut events[start..i], stays as i32);
-        let a = 2 * q + stays;
-        let b = 3 * q + stays;
-        work[a] = m.x;
-        work[b] = m.y;
-        return Open {
+        events[o.start..i].fill(o.stays as i32);
+        work[2 * q + o.stays] = m.x;
+        work[3 * q + o.stays] = m.y;
+        Open {
             start: i,
-            stays: stays + 1,
-        };
-    }
-    lists::fill(&mut events[start..i], -1);
-    Open {
-        start: i,
-        stays: stays,
+            stays: o.stays + 1,
+        }
+    } else {
+        events[o.start..i].fill(-1);
+        Open { start: i, ..o }
     }
 }
 
 // The open group closed before fix i, as a stay with its median on the grid or as none.
+#[tactic(auto, unfolding(crate::specs::Steps::closed, crate::specs::Steps::state_of, crate::specs::Steps::mid_of, crate::specs::StepsRegions::middle_in))]
 fn close(
-    times: &[f64],
-    timed: bool,
+    times: Times,
     s: Config,
     work: &mut [f64],
     events: &mut [i32],
@@ -184,22 +163,19 @@ fn close(
     i: usize,
     o: Open,
 ) -> Open
-    requires { (i ≤ length times.now) × Room q i o (length work.old) (length events.old) }
-    ensures { state_of q i work.new events.new result ≡ closed s timed times.now i (state_of q i work.old events.old o) }
+    requires { (i ≤ length times.at.now) × Room q i o (length work.old) (length events.old) }
+    ensures { state_of q i work.new events.new result ≡ closed s times.entry.timed times.entry.at.now i (state_of q i work.old events.old o) }
 {
-    let start = o.start;
-    let len = i - start;
-    let last = i - 1;
-    let span = elapsed(times, timed, start, last);
+    let len = i - o.start;
+    let span = times.elapsed(o.start, i - 1);
     let m = distance::grid::point_on_grid(middle(work, q, len), s.min_spatial_resolution);
-    keep(work, events, q, i, o, m, is_stay(timed, s, len, span))
+    keep(work, events, q, i, o, m, times.is_stay(s, len, span))
 }
 
 // One fix: it joins the open group, or closes it and opens the next.
 fn next(
     p: Point,
-    times: &[f64],
-    timed: bool,
+    times: Times,
     s: Config,
     work: &mut [f64],
     events: &mut [i32],
@@ -207,20 +183,18 @@ fn next(
     i: usize,
     o: Open,
 ) -> Open
-    requires { (i < length times.now) × Ready q i o work.old (length events.old) }
-    ensures { state_of q (i + 1) work.new events.new result ≡ step euclidean s timed times.now p i (state_of q i work.old events.old o) }
+    requires { (i < length times.at.now) × Ready q i o work.old (length events.old) }
+    ensures { state_of q (i + 1) work.new events.new result ≡ step euclidean s times.entry.timed times.entry.at.now p i (state_of q i work.old events.old o) }
 {
-    let start = o.start;
-    let len = i - start;
-    let last = i - 1;
+    let len = i - o.start;
     let m = middle(work, q, len);
     let d = distance::distance(p, m);
-    let gap = elapsed(times, timed, last, i);
-    if joins(timed, s, d, gap) {
+    let gap = times.elapsed(i - 1, i);
+    if times.joins(s, d, gap) {
         insert_both(work, q, len, p);
         return o;
     }
-    let n = close(times, timed, s, work, events, q, i, o);
+    let n = close(times, s, work, events, q, i, o);
     insert_both(work, q, 0, p);
     n
 }
@@ -246,26 +220,16 @@ pub fn stays(
     }
     let q = work.len() / 4;
     let timed = trace::all_marked(marks);
+    let t = Times { at: times, timed };
     insert_both(work, q, 0, Point { x: xs[0], y: ys[0] });
     let mut o = Open {
         start: 0,
         stays: found,
     };
-    let mut i = 1;
-    while i < n {
-        o = next(
-            Point { x: xs[i], y: ys[i] },
-            times,
-            timed,
-            s,
-            work,
-            events,
-            q,
-            i,
-            o,
-        );
-        i += 1;
+    for i in 1..n {
+        let p = Point { x: xs[i], y: ys[i] };
+        o = next(p, t, s, work, events, q, i, o);
     }
-    let last = close(times, timed, s, work, events, q, n, o);
+    let last = close(t, s, work, events, q, n, o);
     last.stays - found
 }

@@ -1,12 +1,12 @@
--- What a line of values holds, and how it is judged: `Steps` against `Form`.
+-- What a line of values holds, and how it is judged: `Machine` against `Form`.
 use Rattle.std.proofs.Common.{◌≡◌, ℕ, zero, suc, ◌+◌, ◌<◌, ◌≤◌, Bool, true, false, cond, not, ◌&&◌, eqb, leb, List, [], ◌∷◌, length, get_or, refl, ◌∙◌, arith, length-set, get_or-set_other, get_or-set_same, le-leb, leb-true}
 use mathlib.Core.Option.{Option, none, some, bind, map}
 use Rattle.text.specs.declared.state.State.{State}
 use Rattle.text.proofs.Numbers.{sign_of}
-use Rattle.text.proofs.Rows.{field_noted, fields_noted, Row, add}
+use Rattle.text.proofs.Rows.{kept, field_noted, fields_noted, Row, add}
 use Rattle.text.specs.Fields.{Field, number, dash, bad, all_digits, size_from, digits_of, after_minus, field_of, size_of, is_whole, is_natural, is_field}
 use Rattle.text.specs.Form.{only_if, cut, row_of, settings_in, fix_in}
-use Rattle.text.specs.Machine.{Machine, settings_ok, fix_ok}
+use Rattle.text.specs.Machine.{Machine, whole_sign, natural_sign, unread, field_at, settings_ok, fix_ok}
 
 -- ---- what a line holds
 
@@ -72,82 +72,62 @@ sound (e ∷ es) t = go (λ r. sound es r) (cut e t) (shorter e t) where
 
 -- ---- how it is noted
 
-pub size_before : (fs : List Field) (m : Machine) (k j : ℕ) → j < k → get_or (fields_noted m k fs).sizes j 0 ≡ get_or m.sizes j 0
+pub field_before : (fs : List Field) (m : Machine) (k j : ℕ) → j < k → field_at (fields_noted m k fs).fields j ≡ field_at m.fields j
 unfolding fields_noted field_noted
-size_before [] m k j h = refl
-size_before (F ∷ fs) m k j h = size_before fs (field_noted m k F) (suc k) j (omega arith) ∙ get_or-set_other m.sizes k j (size_of F) 0 (λ q. omega arith)
+field_before [] m k j h = refl
+field_before (F ∷ fs) m k j h = field_before fs (field_noted m k F) (suc k) j (omega arith) ∙ get_or-set_other m.fields k j (kept F) unread (λ q. omega arith)
 
-pub size_noted : (fs : List Field) (m : Machine) (k i : ℕ) → i < length fs → k + length fs ≤ length m.sizes
-    → get_or (fields_noted m k fs).sizes (k + i) 0 ≡ size_of (get_or fs i bad)
+pub field_kept : (fs : List Field) (m : Machine) (k i : ℕ) → i < length fs → k + length fs ≤ length m.fields
+    → field_at (fields_noted m k fs).fields (k + i) ≡ kept (get_or fs i bad)
 unfolding fields_noted field_noted
-size_noted [] m k i h l = absurd (omega arith)
-size_noted (F ∷ fs) m k zero h l =
+field_kept [] m k i h l = absurd (omega arith)
+field_kept (F ∷ fs) m k zero h l =
     let p : k + 0 ≡ k = omega arith in
-    rw p (size_before fs (field_noted m k F) (suc k) k (omega arith) ∙ get_or-set_same m.sizes k (size_of F) 0 (omega arith))
-size_noted (F ∷ fs) m k (suc i) h l =
+    rw p (field_before fs (field_noted m k F) (suc k) k (omega arith) ∙ get_or-set_same m.fields k (kept F) unread (omega arith))
+field_kept (F ∷ fs) m k (suc i) h l =
     let p : k + suc i ≡ suc k + i = omega arith in
-    let q = length-set m.sizes k (size_of F) in
-    rw p (size_noted fs (field_noted m k F) (suc k) i (omega arith) (omega arith))
+    let q = length-set m.fields k (kept F) in
+    rw p (field_kept fs (field_noted m k F) (suc k) i (omega arith) (omega arith))
 
-pub sign_before : (fs : List Field) (m : Machine) (k j : ℕ) → j < k → get_or (fields_noted m k fs).signs j 0 ≡ get_or m.signs j 0
+pub fields_length : (fs : List Field) (m : Machine) (k : ℕ) → length (fields_noted m k fs).fields ≡ length m.fields
 unfolding fields_noted field_noted
-sign_before [] m k j h = refl
-sign_before (F ∷ fs) m k j h = sign_before fs (field_noted m k F) (suc k) j (omega arith) ∙ get_or-set_other m.signs k j (sign_of F) 0 (λ q. omega arith)
-
-pub sign_noted : (fs : List Field) (m : Machine) (k i : ℕ) → i < length fs → k + length fs ≤ length m.signs
-    → get_or (fields_noted m k fs).signs (k + i) 0 ≡ sign_of (get_or fs i bad)
-unfolding fields_noted field_noted
-sign_noted [] m k i h l = absurd (omega arith)
-sign_noted (F ∷ fs) m k zero h l =
-    let p : k + 0 ≡ k = omega arith in
-    rw p (sign_before fs (field_noted m k F) (suc k) k (omega arith) ∙ get_or-set_same m.signs k (sign_of F) 0 (omega arith))
-sign_noted (F ∷ fs) m k (suc i) h l =
-    let p : k + suc i ≡ suc k + i = omega arith in
-    let q = length-set m.signs k (sign_of F) in
-    rw p (sign_noted fs (field_noted m k F) (suc k) i (omega arith) (omega arith))
-
-pub sizes_length : (fs : List Field) (m : Machine) (k : ℕ)
-    → (length (fields_noted m k fs).sizes ≡ length m.sizes) × (length (fields_noted m k fs).signs ≡ length m.signs)
-unfolding fields_noted field_noted
-sizes_length [] m k = (refl, refl)
-sizes_length (F ∷ fs) m k = let i = sizes_length fs (field_noted m k F) (suc k) in (i.0 ∙ length-set m.sizes k (size_of F), i.1 ∙ length-set m.signs k (sign_of F))
+fields_length [] m k = refl
+fields_length (F ∷ fs) m k = fields_length fs (field_noted m k F) (suc k) ∙ length-set m.fields k (kept F)
 
 -- ---- how it is judged
 
-whole_sign : (F : Field) → leb (sign_of F) 1 ≡ is_whole F
+whole_kept : (F : Field) → whole_sign (sign_of F) ≡ is_whole F
 unfolding sign_of is_whole
-whole_sign (number true v) = refl
-whole_sign (number false v) = refl
-whole_sign dash = refl
-whole_sign bad = refl
+whole_kept (number true v) = refl
+whole_kept (number false v) = refl
+whole_kept dash = refl
+whole_kept bad = refl
 
-natural_sign : (F : Field) → eqb (sign_of F) 0 ≡ is_natural F
+natural_kept : (F : Field) → natural_sign (sign_of F) ≡ is_natural F
 unfolding sign_of is_natural
-natural_sign (number true v) = refl
-natural_sign (number false v) = refl
-natural_sign dash = refl
-natural_sign bad = refl
+natural_kept (number true v) = refl
+natural_kept (number false v) = refl
+natural_kept dash = refl
+natural_kept bad = refl
 
-pub settings_judged : (fs : List Field) (m : Machine) → length fs ≡ 7 → length m.sizes ≡ 11 → length m.signs ≡ 11
-    → settings_ok (fields_noted m 0 fs).sizes (fields_noted m 0 fs).signs ≡ settings_in fs
-unfolding settings_ok settings_in
-settings_judged fs m l z y =
+pub settings_judged : (fs : List Field) (m : Machine) → length fs ≡ 7 → length m.fields ≡ 11 → settings_ok (fields_noted m 0 fs).fields ≡ settings_in fs
+unfolding settings_ok settings_in kept
+settings_judged fs m l z =
     rw (
-      sign_noted fs m 0 0 (omega arith) (omega arith),
-      sign_noted fs m 0 1 (omega arith) (omega arith),
-      sign_noted fs m 0 2 (omega arith) (omega arith),
-      sign_noted fs m 0 3 (omega arith) (omega arith),
-      sign_noted fs m 0 4 (omega arith) (omega arith),
-      sign_noted fs m 0 5 (omega arith) (omega arith),
-      sign_noted fs m 0 6 (omega arith) (omega arith),
-      size_noted fs m 0 2 (omega arith) (omega arith),
-      whole_sign (get_or fs 0 bad),
-      whole_sign (get_or fs 1 bad),
-      natural_sign (get_or fs 2 bad),
-      whole_sign (get_or fs 3 bad),
-      whole_sign (get_or fs 4 bad),
-      natural_sign (get_or fs 5 bad),
-      natural_sign (get_or fs 6 bad),
+      field_kept fs m 0 0 (omega arith) (omega arith),
+      field_kept fs m 0 1 (omega arith) (omega arith),
+      field_kept fs m 0 2 (omega arith) (omega arith),
+      field_kept fs m 0 3 (omega arith) (omega arith),
+      field_kept fs m 0 4 (omega arith) (omega arith),
+      field_kept fs m 0 5 (omega arith) (omega arith),
+      field_kept fs m 0 6 (omega arith) (omega arith),
+      whole_kept (get_or fs 0 bad),
+      whole_kept (get_or fs 1 bad),
+      natural_kept (get_or fs 2 bad),
+      whole_kept (get_or fs 3 bad),
+      whole_kept (get_or fs 4 bad),
+      natural_kept (get_or fs 5 bad),
+      natural_kept (get_or fs 6 bad),
     )
 
 first_small : (fs : List Field) → Small fs → size_of (get_or fs 0 bad) ≤ 1000000000
@@ -155,17 +135,16 @@ unfolding Small size_of
 first_small [] h = omega arith
 first_small (F ∷ fs) h = h.0
 
-pub fix_judged : (fs : List Field) (m : Machine) (s : State) → length fs ≡ 4 → Small fs → length m.sizes ≡ 11 → length m.signs ≡ 11
-    → fix_ok (fields_noted m 7 fs).sizes (fields_noted m 7 fs).signs s ≡ fix_in s.traces fs
-unfolding fix_ok fix_in
-fix_judged fs m s l h z y =
+pub fix_judged : (fs : List Field) (m : Machine) (s : State) → length fs ≡ 4 → Small fs → length m.fields ≡ 11
+    → fix_ok (fields_noted m 7 fs).fields s ≡ fix_in s.traces fs
+unfolding fix_ok fix_in kept
+fix_judged fs m s l h z =
     rw (
-      size_noted fs m 7 0 (omega arith) (omega arith),
-      sign_noted fs m 7 0 (omega arith) (omega arith),
-      sign_noted fs m 7 1 (omega arith) (omega arith),
-      sign_noted fs m 7 2 (omega arith) (omega arith),
+      field_kept fs m 7 0 (omega arith) (omega arith),
+      field_kept fs m 7 1 (omega arith) (omega arith),
+      field_kept fs m 7 2 (omega arith) (omega arith),
       le-leb (size_of (get_or fs 0 bad)) 1000000000 (first_small fs h),
-      natural_sign (get_or fs 0 bad),
-      whole_sign (get_or fs 1 bad),
-      whole_sign (get_or fs 2 bad),
+      natural_kept (get_or fs 0 bad),
+      whole_kept (get_or fs 1 bad),
+      whole_kept (get_or fs 2 bad),
     )

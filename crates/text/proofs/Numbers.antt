@@ -1,8 +1,12 @@
--- A field taken byte by byte is the field that its bytes write: `field_byte` of `Steps` against `field_of` of `Fields`.
+-- A field taken byte by byte is the field that its bytes write: `field_byte` of `Machine` against `field_of` of `Fields`.
 use Rattle.std.proofs.Common.{◌≡◌, ℕ, ◌+◌, ◌-◌, ◌*◌, ◌<◌, ◌≤◌, Bool, true, false, cond, not, ◌&&◌, ◌||◌, eqb, leb, ◌⊎◌, List, [], ◌∷◌, sym, refl, ap, ◌∙◌, subst, inl, inr, arith, ne_eqb, le-leb, leb-false, leb-true}
 use borrow.Author.Tests.{lt-leb}
 use Rattle.lists.proofs.Tests.{and_left, and_right, or_true, clash}
 use Rattle.text.specs.declared.state.State.{State}
+use Rattle.text.specs.declared.state.Stage.{Stage}
+use Rattle.text.specs.declared.state.Stage.TheVariants.{Outside}
+use Rattle.text.specs.declared.field.Sign.{Sign}
+use Rattle.text.specs.declared.field.Sign.TheVariants.{Natural, Negative, Dash, Empty}
 use Rattle.text.specs.Bytes.{is_digit}
 use Rattle.text.specs.Fields.{Field, number, dash, bad, all_digits, size_from, digits_of, after_minus, field_of, size_of}
 -- Named so that the facts are checked before these lemmas.
@@ -37,16 +41,16 @@ digit_not s b m h = go (eqb b 45) refl where
   go false e = rw h
 
 -- What is refused stays so.
-refused_on : (s : State) (b : ℕ) → s.stage ≡ 4 → (field_byte s b).stage ≡ 4
+refused_on : (s : State) (b : ℕ) → s.stage ≡ Outside → (field_byte s b).stage ≡ Outside
 unfolding field_byte refused signed grown
 refused_on s b e = go (eqb b 45) (s.minus || s.digit) (is_digit b && leb (s.value * 10 + (b - 48)) 1000000000) where
-  go : (t u v : Bool) → (cond t (cond u (refused s) (signed s)) (cond v (grown s (s.value * 10 + (b - 48))) (refused s))).stage ≡ 4
+  go : (t u v : Bool) → (cond t (cond u (refused s) (signed s)) (cond v (grown s (s.value * 10 + (b - 48))) (refused s))).stage ≡ Outside
   go true true v = refl
   go true false v = e
   go false u true = e
   go false u false = refl
 
-pub refused_stays : (s : State) (bs : List ℕ) → s.stage ≡ 4 → (field_bytes s bs).stage ≡ 4
+pub refused_stays : (s : State) (bs : List ℕ) → s.stage ≡ Outside → (field_bytes s bs).stage ≡ Outside
 unfolding field_bytes
 refused_stays s [] e = e
 refused_stays s (b ∷ bs) e = refused_stays (field_byte s b) bs (refused_on s b e)
@@ -70,12 +74,12 @@ good s b (c ∷ cs) d l =
 
 -- Bytes that do not, after a minus or a digit.
 pub ill : (s : State) (bs : List ℕ) → s.minus || s.digit ≡ true → s.value ≤ 1000000000 → (all_digits bs ≡ true → size_from s.value bs ≤ 1000000000 → ⊥)
-    → (field_bytes s bs).stage ≡ 4
+    → (field_bytes s bs).stage ≡ Outside
 unfolding field_bytes all_digits size_from refused grown
 ill s [] m l h = absurd (h refl l)
 ill s (b ∷ bs) m l h = go (λ q. λ p. λ k. λ z. ill q bs p k z) (is_digit b) (leb (s.value * 10 + (b - 48)) 1000000000) refl refl where
-  go : ((q : State) → q.minus || q.digit ≡ true → q.value ≤ 1000000000 → (all_digits bs ≡ true → size_from q.value bs ≤ 1000000000 → ⊥) → (field_bytes q bs).stage ≡ 4)
-      → (t u : Bool) → is_digit b ≡ t → leb (s.value * 10 + (b - 48)) 1000000000 ≡ u → (field_bytes (field_byte s b) bs).stage ≡ 4
+  go : ((q : State) → q.minus || q.digit ≡ true → q.value ≤ 1000000000 → (all_digits bs ≡ true → size_from q.value bs ≤ 1000000000 → ⊥) → (field_bytes q bs).stage ≡ Outside)
+      → (t u : Bool) → is_digit b ≡ t → leb (s.value * 10 + (b - 48)) 1000000000 ≡ u → (field_bytes (field_byte s b) bs).stage ≡ Outside
   go i false u e f = rw (digit_not s b m e) (refused_stays (refused s) bs refl)
   go i true false e f = rw (digit_over s b e (leb-false _ _ f)) (refused_stays (refused s) bs refl)
   go i true true e f =
@@ -95,10 +99,10 @@ other_first s b n h = simp (n, h)
 
 -- A first byte that is no minus, of a field that is no number.
 first_ill : (s : State) (b : ℕ) (bs : List ℕ) → s.value ≡ 0 → eqb b 45 ≡ false → all_digits (b ∷ bs) && leb (size_from 0 (b ∷ bs)) 1000000000 ≡ false
-    → (field_bytes s (b ∷ bs)).stage ≡ 4
+    → (field_bytes s (b ∷ bs)).stage ≡ Outside
 unfolding field_bytes all_digits size_from refused grown
 first_ill s b bs z n e = go (is_digit b) refl where
-  go : (t : Bool) → is_digit b ≡ t → (field_bytes (field_byte s b) bs).stage ≡ 4
+  go : (t : Bool) → is_digit b ≡ t → (field_bytes (field_byte s b) bs).stage ≡ Outside
   go false h = rw (other_first s b n h) (refused_stays (refused s) bs refl)
   go true h =
       let w = digit_high b h in
@@ -111,38 +115,38 @@ minus_first : (s : State) (b : ℕ) → eqb b 45 ≡ true → s.minus || s.digit
 unfolding field_byte
 minus_first s b e h = simp (e, h)
 
--- How a field is noted: 0 a whole number, 1 a negative one, 2 a minus alone, 3 neither.
-unfoldable pub sign_of : Field → ℕ
-sign_of (number n v) = cond n 1 0
-sign_of dash = 2
-sign_of bad = 3
+-- How a field is noted.
+unfoldable pub sign_of : Field → Sign
+sign_of (number n v) = cond n Negative Natural
+sign_of dash = Dash
+sign_of bad = Empty
 
 -- The state S, after the bytes of the field F, from the start of field k.
-pub record Ok (s : State) (g k : ℕ) (F : Field) (S : State) : Type 0 where
+pub record Ok (s : State) (g : Stage) (k : ℕ) (F : Field) (S : State) : Type 0 where
   pub sign : field_sign S ≡ sign_of F
   pub size : S.value ≡ size_of F
   pub stage : S.stage ≡ g
   pub field : S.k ≡ k
-  pub same : (h j : ℕ) → begun S h j ≡ begun s h j
+  pub same : (h : Stage) (j : ℕ) → begun S h j ≡ begun s h j
 
 -- A field is taken as it is written, or the text is refused.
-unfoldable pub Reads : State → ℕ → ℕ → Field → State → Type 0
-Reads s g k F S = Ok s g k F S ⊎ ((F ≡ bad) × (S.stage ≡ 4))
+unfoldable pub Reads : State → Stage → ℕ → Field → State → Type 0
+Reads s g k F S = Ok s g k F S ⊎ ((F ≡ bad) × (S.stage ≡ Outside))
 
-module _ (s : State) (g k : ℕ) where
-  ok_grown : (q : State) (neg : Bool) (v : ℕ) → q.minus ≡ neg → q.stage ≡ g → q.k ≡ k → ((h j : ℕ) → begun q h j ≡ begun s h j)
+module _ (s : State) (g : Stage) (k : ℕ) where
+  ok_grown : (q : State) (neg : Bool) (v : ℕ) → q.minus ≡ neg → q.stage ≡ g → q.k ≡ k → ((h : Stage) (j : ℕ) → begun q h j ≡ begun s h j)
       → Ok s g k (number (neg && not (eqb v 0)) v) (grown q v)
   unfolding field_sign sign_of size_of grown begun
   ok_grown q neg v m w y c = record { sign = rw m; size = refl; stage = w; field = y; same = c }
 
   digits_read : (q : State) (neg : Bool) (b : ℕ) (bs : List ℕ) → q.value ≡ 0 → q.minus ≡ neg → q.stage ≡ g → q.k ≡ k
-      → ((h j : ℕ) → begun q h j ≡ begun s h j) → (all_digits (b ∷ bs) && leb (size_from 0 (b ∷ bs)) 1000000000 ≡ false → (field_bytes q (b ∷ bs)).stage ≡ 4)
+      → ((h : Stage) (j : ℕ) → begun q h j ≡ begun s h j) → (all_digits (b ∷ bs) && leb (size_from 0 (b ∷ bs)) 1000000000 ≡ false → (field_bytes q (b ∷ bs)).stage ≡ Outside)
       → Reads s g k (digits_of neg (b ∷ bs)) (field_bytes q (b ∷ bs))
   unfolding Reads digits_of
   digits_read q neg b bs z m w y c h = go (all_digits (b ∷ bs) && leb (size_from 0 (b ∷ bs)) 1000000000) refl where
     go : (t : Bool) → all_digits (b ∷ bs) && leb (size_from 0 (b ∷ bs)) 1000000000 ≡ t
         → Ok s g k (cond t (number (neg && not (eqb (size_from 0 (b ∷ bs)) 0)) (size_from 0 (b ∷ bs))) bad) (field_bytes q (b ∷ bs))
-        ⊎ ((cond t (number (neg && not (eqb (size_from 0 (b ∷ bs)) 0)) (size_from 0 (b ∷ bs))) bad ≡ bad) × ((field_bytes q (b ∷ bs)).stage ≡ 4))
+        ⊎ ((cond t (number (neg && not (eqb (size_from 0 (b ∷ bs)) 0)) (size_from 0 (b ∷ bs))) bad ≡ bad) × ((field_bytes q (b ∷ bs)).stage ≡ Outside))
     go true e =
         let l : size_from q.value (b ∷ bs) ≤ 1000000000 = rw z (leb-true _ _ (and_right (all_digits (b ∷ bs)) (leb (size_from 0 (b ∷ bs)) 1000000000) e)) in
         let p : field_bytes q (b ∷ bs) ≡ grown q (size_from 0 (b ∷ bs)) = good q b bs (and_left (all_digits (b ∷ bs)) (leb (size_from 0 (b ∷ bs)) 1000000000) e) l ∙ ap (λ (v : ℕ). grown q (size_from v (b ∷ bs))) z in

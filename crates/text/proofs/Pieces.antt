@@ -1,24 +1,23 @@
 -- A text in pieces is the text in one piece; what the machine holds at its end is what the text says.
+use Rattle.std.specs.Prelude.{Ok, Err}
 use Rattle.std.proofs.Common.{◌≡◌, ℕ, ◌<◌, ◌≤◌, Bool, true, false, ltb, List, [], map, length, get_or, take, replicate, sym, refl, ap, ◌∙◌, subst, arith, take_all, ltb-false, ltb-true}
-use mathlib.Core.Bool.{false≢true}
 use mathlib.Core.Option.{Option, none, some}
 use lib.Ieee.{Float}
-use Rattle.lists.proofs.Tests.{clash}
 use Rattle.settings.specs.declared.config.Config.{Config}
-use Rattle.settings.specs.declared.refusal.Checked.{Checked}
-use Rattle.settings.specs.declared.refusal.Checked.TheVariants.{Accepted, Refused as failed}
+use Rattle.settings.specs.declared.refusal.Refusal.{Refusal}
+use Rattle.settings.specs.Checks.{Checked}
 use Rattle.settings.specs.Settings.{check_config}
+use Rattle.text.specs.declared.Input.{Input}
 use Rattle.text.specs.declared.Reader.{Reader}
-use Rattle.text.specs.declared.Parsed.{Parsed}
-use Rattle.text.specs.declared.Parsed.TheVariants.{Tracks, Refused}
-use Rattle.text.specs.Fields.{Field, bad, size_of}
+use Rattle.text.specs.declared.field.Field.{Field as Kept}
+use Rattle.text.specs.Fields.{Field, bad}
 use Rattle.text.specs.Form.{Lines, lines_of}
 use Rattle.text.specs.Values.{FixLine, config_of, fix_of, Read, outside, inside, values_of, read, lengths_of, Columns, columns}
 use Rattle.text.proofs.TracesRise.{TracesRise}
-use Rattle.text.specs.Parsed.{too_many, unless_many, at_most768, parsed, with_columns, filled, Parses}
-use Rattle.text.specs.Machine.{Machine, machine, run, initial, ended, start_reader, holding, Fed, config_in, is_taken}
+use Rattle.text.specs.Parsed.{Parsed, too_many, unless_many, at_most768, parsed, with_columns, filled, Parses}
+use Rattle.text.specs.Machine.{Machine, machine, unread, field_at, run, initial, ended, start_reader, holding, Fed, config_in}
 use Rattle.text.specs.Pieces.{first_fixes, finished_if, finished, ReadAs, Starts, Feeds, Finishes}
-use Rattle.text.proofs.Numbers.{sign_of}
+use Rattle.text.proofs.Rows.{kept}
 use Rattle.text.proofs.Run.{run_parts}
 use Rattle.text.proofs.Noted.{count_from, Contents, float_noted}
 use Rattle.text.proofs.Reading.{Says, text_read}
@@ -43,10 +42,9 @@ fed_more {u} {r} {q} {c} {c'} e =
 
 -- ---- the settings
 
-config_read : (f : List Field) (sizes signs : List ℕ) → ((i : ℕ) → i < 7 → get_or sizes i 0 ≡ size_of (get_or f i bad))
-    → ((i : ℕ) → i < 7 → get_or signs i 0 ≡ sign_of (get_or f i bad)) → config_in sizes signs ≡ config_of f
-unfolding config_in config_of
-config_read f sizes signs z g =
+config_read : (f : List Field) (fields : List Kept) → ((i : ℕ) → i < 7 → field_at fields i ≡ kept (get_or f i bad)) → config_in fields ≡ config_of f
+unfolding config_in config_of kept
+config_read f fields z =
     rw (
       z 0 (omega arith),
       z 1 (omega arith),
@@ -55,10 +53,6 @@ config_read f sizes signs z g =
       z 4 (omega arith),
       z 5 (omega arith),
       z 6 (omega arith),
-      g 0 (omega arith),
-      g 1 (omega arith),
-      g 3 (omega arith),
-      g 4 (omega arith),
       float_noted (get_or f 0 bad),
       float_noted (get_or f 1 bad),
       float_noted (get_or f 3 bad),
@@ -95,14 +89,14 @@ module _ (c : Columns) (t : List ℕ) (r : Reader) (c' : Columns) where
 
   fed_says : Fed c t r c' → Says HoldsLines (lines_of t) (holding r c')
   unfolding start_reader
-  fed_says f = subst (Says HoldsLines (lines_of t)) (sym f.fed) (text_read t _ _ _ _ _ _ _ refl refl)
+  fed_says f = subst (Says HoldsLines (lines_of t)) (sym f.fed) (text_read t _ _ _ _ _ _ refl)
 
   -- A text in the form.
   in_lines : (f : List Field) (ps : List FixLine) → Contents (holding start_reader c) initial f ps (holding r c')
-      → (at_most768 (config_in r.sizes r.signs) r.state.fixes r.state.traces ≡ parsed (inside (config_of f) ps)) × (c' ≡ with_columns c (first_fixes ps))
+      → (at_most768 (config_in r.fields) r.state.fixes r.state.traces ≡ parsed (inside (config_of f) ps)) × (c' ≡ with_columns c (first_fixes ps))
   unfolding start_reader initial parsed lengths_of with_columns
   in_lines f ps k = (
-    ap (λ (s : Config). at_most768 s r.state.fixes r.state.traces) (config_read f r.sizes r.signs k.sizes k.signs)
+    ap (λ (s : Config). at_most768 s r.state.fixes r.state.traces) (config_read f r.fields k.fields)
         ∙ ap (λ (n : ℕ). at_most768 (config_of f) n r.state.traces) k.fixes
         ∙ many_counted (config_of f) ps r.state.traces
         ∙ ap (at_most768 (config_of f) (length ps)) (k.traces ∙ traces_counted ps [] 0 refl k.rising),
@@ -137,12 +131,12 @@ fed_end {r} {p} e = record { equation = e; end = λ {c} {c'} {t} f. rw e (fed_re
 
 -- The machine before the first byte, without slices.
 abbrev empty : Machine
-empty = machine initial (replicate 11 0) (replicate 11 0) [] [] [] [] []
+empty = machine initial (replicate 11 unread) [] [] [] [] []
 
 -- The traces of a text rise from 0 without gaps.
 pub rises : (t : List ℕ) (c : Config) (ps : List FixLine) → read t ≡ inside c ps → TracesRise 0 ps
 unfolding read values_of initial Says
-rises t c ps q = go (lines_of t) refl (text_read t (replicate 11 0) (replicate 11 0) [] [] [] [] [] refl refl)
+rises t c ps q = go (lines_of t) refl (text_read t (replicate 11 unread) [] [] [] [] [] refl)
   where
     go : (L : Option Lines) → lines_of t ≡ L → Says (λ (l : Lines). Contents empty initial l.settings (map fix_of l.fixes)) L (run empty t) → TracesRise 0 ps
     go none e n = not_inside c ps (rw e at q)
@@ -154,33 +148,31 @@ rises t c ps q = go (lines_of t) refl (text_read t (replicate 11 0) (replicate 1
 -- ---- a text in one piece
 
 -- A text that is taken has at most 768 fixes.
-few : (c : Config) (ls : List FixLine) → is_taken (parsed (inside c ls)) ≡ true → first_fixes ls ≡ ls
+few : (i : Input) (c : Config) (ls : List FixLine) → Ok i ≡ parsed (inside c ls) → first_fixes ls ≡ ls
 unfolding parsed at_most768 unless_many first_fixes too_many
-few c ls h = go (ltb 768 (length ls)) refl
+few i c ls h = go (ltb 768 (length ls)) refl
   where
-    never : (v : Checked) → is_taken (too_many v) ≡ false
-    never Accepted = refl
-    never (failed e) = refl
+    never : (v : Checked) → Ok i ≡ too_many v → ⊥
+    never (Ok x) e = cc
+    never (Err x) e = cc
 
     go : (b : Bool) → ltb 768 (length ls) ≡ b → take 768 ls ≡ ls
-    go true e = clash (is_taken (too_many (check_config c))) (rw e at h) (never (check_config c))
+    go true e = absurd (never (check_config c) (rw e at h))
     go false e = take_all 768 ls (ltb-false 768 (length ls) e)
 
-pub parses_refused : {t : List ℕ} {c : Columns} (r : Parsed) → r ≡ parsed (read t) → is_taken r ≡ false → Parses t c r c
-unfolding filled
-parses_refused (Refused e) a h = record { answer = a; slices = refl }
-parses_refused (Tracks i) a h = absurd (false≢true (sym h))
-
-outside_refused : is_taken (parsed outside) ≡ false
+outside_refused : (i : Input) → Ok i ≡ parsed outside → ⊥
 unfolding parsed
-outside_refused = refl
+outside_refused i e = cc
 
--- What `parse` does with a text that is taken.
-pub parses_whole : {t : List ℕ} {c c' : Columns} {r : Parsed} {q : Reader} → Fed c t q c' → r ≡ parsed (read t) → is_taken r ≡ true → Parses t c r c'
+-- What `parse` does with a text that is refused, and with one that is taken.
+pub parses_refused : {t : List ℕ} {c : Columns} {e : Refusal} → Err e ≡ parsed (read t) → Parses t c (Err e) c
 unfolding filled
-parses_whole {t} {c} {c'} {r} {q} f a h = record { answer = a; slices = go r (read t) refl a h }
+parses_refused a = record { answer = a; slices = refl }
+
+pub parses_whole : {t : List ℕ} {c c' : Columns} {i : Input} {q : Reader} → Fed c t q c' → Ok i ≡ parsed (read t) → Parses t c (Ok i) c'
+unfolding filled
+parses_whole {t} {c} {c'} {i} {q} f a = record { answer = a; slices = go (read t) refl a }
   where
-    go : (r : Parsed) (w : Read) → read t ≡ w → r ≡ parsed (read t) → is_taken r ≡ true → c' ≡ filled r w c
-    go (Refused e) w p a h = absurd (false≢true h)
-    go (Tracks i) outside p a h = absurd (false≢true (sym (ap is_taken (a ∙ ap parsed p) ∙ outside_refused)))
-    go (Tracks i) (inside s ls) p a h = (fed_read c t q c' f).slices s ls p ∙ ap (with_columns c) (few s ls (ap is_taken (sym (a ∙ ap parsed p))))
+    go : (w : Read) → read t ≡ w → Ok i ≡ parsed w → c' ≡ filled (Ok i) w c
+    go outside p a = absurd (outside_refused i a)
+    go (inside s ls) p a = (fed_read c t q c' f).slices s ls p ∙ ap (with_columns c) (few i s ls a)

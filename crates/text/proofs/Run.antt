@@ -1,15 +1,16 @@
 -- The machine over a text: how a loop goes on and ends, a text in two parts, and what makes one step.
-use Rattle.std.proofs.Common.{◌≡◌, ℕ, ◌+◌, ◌<◌, ◌≤◌, Bool, true, false, cond, leb, List, [], ◌∷◌, ◌++◌, length, get_or, drop, refl, ap, ◌∙◌, add-one, arith, drop_of_length-le, drop-cons, leb-true}
+use Rattle.std.proofs.Common.{◌≡◌, ℕ, ◌+◌, ◌<◌, ◌≤◌, Bool, true, false, leb, List, [], ◌∷◌, ◌++◌, length, get_or, set, drop, refl, ap, ◌∙◌, add-one, drop_of_length-le, drop-cons, leb-true}
 use lib.Ieee.{Float}
 use Rattle.text.specs.declared.state.State.{State}
-use Rattle.text.specs.Machine.{fix_ok, Machine, step, run, machine, lexed, lexed_sizes, lexed_signs, judged, stored, set_if, sign_mark, signed_whole}
+use Rattle.text.specs.declared.field.Field.{Field}
+use Rattle.text.specs.Machine.{field_at, fix_ok, Machine, step, run, machine, lexed, lexed_fields, judged, stored, set_if, sign_mark, signed_whole}
 
-pub fix_size : (sizes signs : List ℕ) (s : State) → fix_ok sizes signs s ≡ true → get_or sizes 7 0 ≤ 1000000000
+pub fix_size : (fs : List Field) (s : State) → fix_ok fs s ≡ true → (field_at fs 7).size ≤ 1000000000
 unfolding fix_ok
-fix_size sizes signs s e = go (leb (get_or sizes 7 0) 1000000000) refl where
-  go : (t : Bool) → leb (get_or sizes 7 0) 1000000000 ≡ t → get_or sizes 7 0 ≤ 1000000000
+fix_size fs s e = go (leb (field_at fs 7).size 1000000000) refl where
+  go : (t : Bool) → leb (field_at fs 7).size 1000000000 ≡ t → (field_at fs 7).size ≤ 1000000000
   go true h = leb-true _ _ h
-  go false h = let f : false ≡ true = simp h at e in omega (arith, ap {B = ℕ} (λ (b : Bool). cond b 1 0) f)
+  go false h = let f : false ≡ true = simp h at e in cc
 
 -- A loop over the bytes.
 pub run_on : (m m₁ : Machine) (text : List ℕ) (i : ℕ) {v : Machine} → i < length text → m₁ ≡ step m (get_or text i 0) → run m (drop i text) ≡ v
@@ -27,15 +28,15 @@ unfolding run
 run_parts m [] b = refl
 run_parts m (x ∷ a) b = run_parts (step m x) a b
 
--- A byte's parts make its step.
-pub step_made : (s t r : State) (b : ℕ) (go : Bool) (sizes signs z g : List ℕ) (xs ys ts xs₁ ys₁ ts₁ : List Float) (ms ls ms₁ ls₁ : List ℕ) (x y w : Float) (d h n : ℕ)
-    → t ≡ lexed s b → z ≡ lexed_sizes s b sizes → g ≡ lexed_signs s b signs → r ≡ judged z g t → go ≡ stored t r
-    → x ≡ signed_whole (get_or g 8 0) (get_or z 8 0) → xs₁ ≡ set_if go xs t.fixes x
-    → y ≡ signed_whole (get_or g 9 0) (get_or z 9 0) → ys₁ ≡ set_if go ys t.fixes y
-    → w ≡ signed_whole (get_or g 10 0) (get_or z 10 0) → ts₁ ≡ set_if go ts t.fixes w
-    → d ≡ get_or g 10 0 → h ≡ sign_mark d → ms₁ ≡ set_if go ms t.fixes h
-    → n ≡ get_or z 7 0 → ls₁ ≡ set_if go ls n r.len
-    → machine r z g xs₁ ys₁ ts₁ ms₁ ls₁ ≡ step (machine s sizes signs xs ys ts ms ls) b
-unfolding step
-step_made s t r b go sizes signs z g xs ys ts xs₁ ys₁ ts₁ ms ls ms₁ ls₁ x y w d h n et ez eg er ego ex exs ey eys ew ets ed eh ems en els =
-    rw (exs, eys, ets, ems, els, ex, ey, ew, eh, ed, en, ego, er, et, ez, eg)
+-- A byte's parts make its step: a fix is stored, or none.
+module _ (s t r : State) (b : ℕ) (fields fs : List Field) (et : t ≡ lexed s b) (ef : fs ≡ lexed_fields s b fields) (er : r ≡ judged fs t) where
+  pub step_stored : (xs ys ts xs₁ ys₁ ts₁ : List Float) (ms ls ms₁ ls₁ : List ℕ) → stored t r ≡ true
+      → xs₁ ≡ set xs t.fixes (signed_whole (field_at fs 8)) → ys₁ ≡ set ys t.fixes (signed_whole (field_at fs 9))
+      → ts₁ ≡ set ts t.fixes (signed_whole (field_at fs 10)) → ms₁ ≡ set ms t.fixes (sign_mark (field_at fs 10).sign)
+      → ls₁ ≡ set ls (field_at fs 7).size r.len → machine r fs xs₁ ys₁ ts₁ ms₁ ls₁ ≡ step (machine s fields xs ys ts ms ls) b
+  unfolding step set_if
+  step_stored xs ys ts xs₁ ys₁ ts₁ ms ls ms₁ ls₁ e exs eys ets ems els = rw (← et, ← ef, ← er, e, exs, eys, ets, ems, els)
+
+  pub step_unstored : (xs ys ts : List Float) (ms ls : List ℕ) → stored t r ≡ false → machine r fs xs ys ts ms ls ≡ step (machine s fields xs ys ts ms ls) b
+  unfolding step set_if
+  step_unstored xs ys ts ms ls e = rw (← et, ← ef, ← er, e)

@@ -1,5 +1,5 @@
 -- Texts that the definitions are tried on: the rules' example, and the edges of the form. Proved by computing.
-use Rattle.std.specs.Prelude.{◌≡◌, ℕ, true, false, List, [], ◌∷◌, ◌++◌, refl, Float}
+use Rattle.std.specs.Prelude.{◌≡◌, ℕ, true, false, List, [], ◌∷◌, ◌++◌, refl, Float, Ok, Err}
 use Rattle.std.proofs.Math.Option.{none, some, bind}
 use Prim.Native.String.{String}
 use Rattle.std.specs.Float.Ieee.{neg, le, of_int, of_bits}
@@ -10,13 +10,11 @@ use Rattle.settings.specs.declared.refusal.Refusal.TheVariants.{R1, Counts, Text
 use Rattle.settings.specs.Checks.{refuse_if, first_of, in_turn}
 use Rattle.settings.specs.Settings.{unusable, negative, out_of_bounds, check_time_bounds, check_resolution, check_config}
 use Rattle.settings.specs.Tries.{settings}
-use Rattle.text.specs.declared.Parsed.{Parsed}
-use Rattle.text.specs.declared.Parsed.TheVariants.{Tracks, Refused}
 use Rattle.text.specs.Bytes.{bytes, is_digit}
 use Rattle.text.specs.Fields.{all_digits, size_from, digits_of, after_minus, field_of, is_whole, is_natural, is_field, size_of, float_of, field_time}
 use Rattle.text.specs.Form.{only_if, setting_names, fix_names, past, cut, row_of, setting_ends, fix_ends, settings_in, fix_in, unless_ended, fix_lines, lines_of}
 use Rattle.text.specs.Values.{config_of, fix_of, Read, outside, inside, values_of, read, time_value, time_mark, with_fix, lengths_from, lengths_of, columns}
-use Rattle.text.specs.Parsed.{too_many, unless_many, at_most768, parsed, into, with_columns, filled}
+use Rattle.text.specs.Parsed.{Parsed, too_many, unless_many, at_most768, parsed, into, with_columns, filled}
 
 -- What a text says, and what parsing hands back.
 reads : List ℕ → Read
@@ -51,7 +49,7 @@ example_reads : reads example ≡ inside settings (record { trace = 0; x = w 0; 
 unfolding reads example
 example_reads = refl
 
-example_parses : parses example ≡ Tracks (record { config = settings; fixes = 2; traces = 1 })
+example_parses : parses example ≡ Ok (record { config = settings; fixes = 2; traces = 1 })
 unfolding parses example
 example_parses = refl
 
@@ -148,14 +146,14 @@ names_swapped : Outside (bytes "r1 r2 single stay gap seed size\n10 10 1 300 864
 unfolding reads bytes
 names_swapped = refl
 
-outside_parses : parses (fixes_of "0 0 0 -") ≡ Refused Text
+outside_parses : parses (fixes_of "0 0 0 -") ≡ Err Text
 unfolding parses fixes_of
 outside_parses = refl
 
 -- ---- in the form
 
 -- No fix line: a fit answers 7.
-no_fix : parses (settings_of "10 10 1 300 86400 2 42\n") ≡ Tracks (record { config = settings; fixes = 0; traces = 0 })
+no_fix : parses (settings_of "10 10 1 300 86400 2 42\n") ≡ Ok (record { config = settings; fixes = 0; traces = 0 })
 unfolding parses settings_of
 no_fix = refl
 
@@ -170,10 +168,10 @@ many : Config → Parsed
 unfolding at_most768 unless_many too_many check_config check_time_bounds check_resolution unusable negative out_of_bounds in_turn first_of refuse_if finite le of_int of_bits
 many c = at_most768 c 769 1
 
-one_too_many : many settings ≡ Refused Counts
+one_too_many : many settings ≡ Err Counts
 unfolding many
 one_too_many = refl
 
-settings_first : many (record { r1 = w 0; r2 = w 10; label_singleton = true; min_staying_time = w 300; max_time_between = w 86400; min_size = 2; min_spatial_resolution = zero64; seed = 42 }) ≡ Refused R1
+settings_first : many (record { r1 = w 0; r2 = w 10; label_singleton = true; min_staying_time = w 300; max_time_between = w 86400; min_size = 2; min_spatial_resolution = zero64; seed = 42 }) ≡ Err R1
 unfolding many
 settings_first = refl

@@ -1,14 +1,12 @@
 -- A text that comes in pieces. `start` has been given nothing, each `feed` one piece more, and `finish` tells what was read of all pieces joined:
 -- `ReadAs`, by the form alone. `Fed c t r c'` stands for: from the slices c the text t was given, in however many pieces, to a reader that now is r, with the
 -- slices c'. The three hand it on to each other, and to use them on a text nothing else has to be known of it.
-use Rattle.std.specs.Prelude.{◌≡◌, ℕ, Bool, true, false, List, [], ◌++◌, take}
+use Rattle.std.specs.Prelude.{◌≡◌, ℕ, Bool, true, false, List, [], ◌++◌, take, Err}
 use Rattle.settings.specs.declared.config.Config.{Config}
 use Rattle.text.specs.declared.Reader.{Reader}
 use Rattle.settings.specs.declared.refusal.Refusal.TheVariants.{Text}
-use Rattle.text.specs.declared.Parsed.{Parsed}
-use Rattle.text.specs.declared.Parsed.TheVariants.{Refused}
 use Rattle.text.specs.Values.{FixLine, inside, read, Columns}
-use Rattle.text.specs.Parsed.{at_most768, parsed, with_columns}
+use Rattle.text.specs.Parsed.{Parsed, at_most768, parsed, with_columns}
 use Rattle.text.specs.Machine.{ended, start_reader, holding, run, Fed, config_in}
 
 -- The slices get the first 768 fixes, before the answer is known.
@@ -22,8 +20,8 @@ pub record ReadAs (c : Columns) (t : List ℕ) (p : Parsed) (c' : Columns) : Typ
 
 -- What a reader has read, where the text ends here.
 unfoldable pub finished_if : Bool → Reader → Parsed
-finished_if true r = at_most768 (config_in r.sizes r.signs) r.state.fixes r.state.traces
-finished_if false r = Refused Text
+finished_if true r = at_most768 (config_in r.fields) r.state.fixes r.state.traces
+finished_if false r = Err Text
 
 unfoldable pub finished : Reader → Parsed
 finished r = finished_if (ended r.state) r

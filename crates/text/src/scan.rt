@@ -1,130 +1,119 @@
 // One byte of a line, before the line is judged.
 ghost use Rattle.std.specs.Prelude.{◌≡◌, ◌<◌};
-ghost use Rattle.text.specs.Machine.{name_byte, field_byte, field_sign, ends as Machine·ends, after as Machine·after, row_byte, row_sizes, row_signs, lexed, lexed_sizes, lexed_signs};
+ghost use Rattle.text.specs.Machine.{name_byte, field_byte, field_sign, ends as Machine·ends, row_byte, row_fields, lexed, lexed_fields};
 
-use crate::state::State;
+use crate::Reader;
+use crate::field::{Field, Sign};
+use crate::slices::put;
+use crate::state::{Stage, State};
 
-// One byte of a line of names, after which field `at` of `stage` begins.
-fn name_byte(names: &[u8], stage: u32, at: usize, s: State, b: u8) -> State
-    ensures { result ≡ name_byte names.now stage at s b }
-{
-    let k = s.k;
-    if names.len() <= k {
-        return crate::state::refused(s);
-    }
-    if b != names[k] {
-        return crate::state::refused(s);
-    }
-    let stay = s.stage;
-    if k + 1 < names.len() {
-        return crate::state::begun(s, stay, k + 1);
-    }
-    crate::state::begun(s, stage, at)
-}
-
-// One byte within a field: a minus at its start, or a digit.
-fn field_byte(s: State, b: u8) -> State
-    ensures { result ≡ field_byte s b }
-{
-    if b == b'-' {
-        if s.minus {
-            return crate::state::refused(s);
+impl State {
+    // One byte of a line of names, after which field `at` of `stage` begins.
+    #[tactic(auto, unfolding(crate::specs::Machine::name_byte))]
+    fn name_byte(self, names: &[u8], stage: Stage, at: usize, b: u8) -> State
+        ensures { result ≡ name_byte names.now stage at self b }
+    {
+        let k = self.k;
+        if names.len() <= k || b != names[k] {
+            self.refused()
+        } else if k + 1 < names.len() {
+            self.begun(self.stage, k + 1)
+        } else {
+            self.begun(stage, at)
         }
-        if s.digit {
-            return crate::state::refused(s);
+    }
+
+    // One byte within a field: a minus at its start, or a digit.
+    #[tactic(auto, unfolding(crate::specs::Machine::field_byte, crate::specs::Bytes::is_digit))]
+    fn field_byte(self, b: u8) -> State
+        ensures { result ≡ field_byte self b }
+    {
+        if b == b'-' {
+            return if self.minus || self.digit {
+                self.refused()
+            } else {
+                self.signed()
+            };
         }
-        return crate::state::signed(s);
-    }
-    if b < b'0' {
-        return crate::state::refused(s);
-    }
-    if b'9' < b {
-        return crate::state::refused(s);
-    }
-    let value = s.value;
-    if 100000000 < value {
-        return crate::state::refused(s);
-    }
-    let v = value * 10 + (b - b'0') as u64;
-    if 1000000000 < v {
-        return crate::state::refused(s);
-    }
-    crate::state::grown(s, v)
-}
-
-// How a field ends: 0 a whole number, 1 a negative one, 2 a minus alone, 3 nothing.
-fn field_sign(s: State) -> u8
-    ensures { result ≡ field_sign s }
-{
-    if s.digit {
-        if s.minus {
-            if s.value == 0 {
-                return 0;
-            }
-            return 1;
+        if !b.is_ascii_digit() || 100_000_000 < self.value {
+            return self.refused();
         }
-        return 0;
-    }
-    if s.minus {
-        return 2;
-    }
-    3
-}
-
-// Whether b ends the field, in a line whose last field is `last`.
-fn ends(last: usize, s: State, b: u8) -> bool
-    ensures { result ≡ Machine·ends last s b }
-{
-    if s.k < last {
-        return b == b' ';
-    }
-    b == b'\n'
-}
-
-fn after(last: usize, k: usize) -> usize
-    requires { last < 11 }
-    ensures { result ≡ Machine·after last k }
-{
-    if k < last {
-        return k + 1;
-    }
-    last + 1
-}
-
-// One byte of a line of values. `sizes` and `signs` are those of the fields.
-fn row_byte(last: usize, s: State, b: u8, sizes: &mut [u64], signs: &mut [u8]) -> State
-    requires { last < 11 }
-    ensures { (result ≡ row_byte last s b) × (sizes.new ≡ row_sizes last s b sizes.old) × (signs.new ≡ row_signs last s b signs.old) }
-{
-    if ends(last, s, b) {
-        let k = s.k;
-        let stage = s.stage;
-        let sign = field_sign(s);
-        crate::slices::put_u64(sizes, k, s.value);
-        crate::slices::put_u8(signs, k, sign);
-        if sign == 3 {
-            return crate::state::refused(s);
+        let v = self.value * 10 + u64::from(b - b'0');
+        if v <= 1_000_000_000 {
+            self.grown(v)
+        } else {
+            self.refused()
         }
-        return crate::state::begun(s, stage, after(last, k));
     }
-    field_byte(s, b)
+
+    // How a field ends.
+    #[tactic(auto, unfolding(crate::specs::Machine::field_sign))]
+    fn field_sign(self) -> Sign
+        ensures { result ≡ field_sign self }
+    {
+        if self.digit && self.minus && self.value != 0 {
+            Sign::Negative
+        } else if self.digit {
+            Sign::Natural
+        } else if self.minus {
+            Sign::Dash
+        } else {
+            Sign::Empty
+        }
+    }
+
+    // Whether b ends the field, in a line whose last field is `last`.
+    #[tactic(auto, unfolding(crate::specs::Machine::ends, crate::specs::Machine::end_of))]
+    fn ends(self, last: usize, b: u8) -> bool
+        ensures { result ≡ Machine·ends last self b }
+    {
+        b == if self.k < last { b' ' } else { b'\n' }
+    }
 }
 
-// One byte by its stage.
-pub fn lex(s: State, b: u8, sizes: &mut [u64], signs: &mut [u8]) -> State
-    ensures { (result ≡ lexed s b) × (sizes.new ≡ lexed_sizes s b sizes.old) × (signs.new ≡ lexed_signs s b signs.old) }
-{
-    if s.stage == 0 {
-        return name_byte(b"r1 r2 single stay gap size seed\n", 1, 0, s, b);
+impl Reader {
+    // One byte of a line of values.
+    #[tactic(auto, unfolding(crate::specs::Machine::row_byte, crate::specs::Machine::row_fields, crate::specs::Machine::after))]
+    fn row_byte(&mut self, last: usize, b: u8)
+        requires { last < 11 }
+        ensures state { self.new.state ≡ row_byte last self.old.state b }
+        ensures fields { self.new.fields ≡ row_fields last self.old.state b self.old.fields }
+    {
+        let s = self.state;
+        if !s.ends(last, b) {
+            self.state = s.field_byte(b);
+            return;
+        }
+        let field = Field {
+            size: s.value,
+            sign: s.field_sign(),
+        };
+        put(&mut self.fields, s.k, field);
+        self.state = if field.sign == Sign::Empty {
+            s.refused()
+        } else {
+            s.begun(s.stage, s.k.min(last) + 1)
+        };
     }
-    if s.stage == 1 {
-        return row_byte(6, s, b, sizes, signs);
+
+    // One byte by its stage.
+    #[tactic(auto, unfolding(crate::specs::Machine::lexed, crate::specs::Machine::lexed_fields, crate::specs::Form::setting_names, crate::specs::Form::fix_names))]
+    pub(crate) fn lex(&mut self, b: u8)
+        ensures state { self.new.state ≡ lexed self.old.state b }
+        ensures fields { self.new.fields ≡ lexed_fields self.old.state b self.old.fields }
+    {
+        let s = self.state;
+        match s.stage {
+            Stage::SettingNames => self.state = s.name_byte(
+                b"r1 r2 single stay gap size seed\n",
+                Stage::Settings,
+                0,
+                b,
+            ),
+            Stage::Settings => self.row_byte(6, b),
+            Stage::FixNames => self.state = s.name_byte(b"trace x y time\n", Stage::Fixes, 7, b),
+            Stage::Fixes => self.row_byte(10, b),
+            Stage::Outside => {}
+        }
     }
-    if s.stage == 2 {
-        return name_byte(b"trace x y time\n", 3, 7, s, b);
-    }
-    if s.stage == 3 {
-        return row_byte(10, s, b, sizes, signs);
-    }
-    s
 }

@@ -5,16 +5,8 @@ ghost use Rattle.std.specs.Prelude.{◌≡◌};
 ghost use Rattle.trace.specs.Steps.{all_marked};
 
 // Whether all marks are 1.
-#[tactic(auto, using(crate::proofs::Marks::marked_on, crate::proofs::Marks::marked_stop))]
 pub fn all_marked(marks: &[u8]) -> bool
     ensures { result ≡ all_marked marks.now }
 {
-    let mut i = 0;
-    while i < marks.len() {
-        if marks[i] != 1 {
-            return false;
-        }
-        i += 1;
-    }
-    true
+    marks.iter().all(|&m| m == 1)
 }

@@ -1,6 +1,6 @@
 -- `checks::check_traces` meets its contract. The invariant: the traces from k on, the first of them starting at `at`, have the first refusal of all.
 use mathlib.Core.Path.{◌≡◌}
-use Prim.Native.Nat.{◌+◌, ◌-◌}
+use Prim.Native.Nat.{◌+◌}
 use lib.ListN.{length, drop}
 use Rattle.trace.specs.Trace.{fixes, total, traces}
 use Rattle.settings.specs.Checks.{each_from}
@@ -12,6 +12,3 @@ invariant-loop-k l =
     (each_from check_trace l.k (traces (drop l.k l.lens) (drop l.at (fixes l.xs l.ys l.times l.marks))) ≡ each_from check_trace 0
     (traces l.lens (fixes l.xs l.ys l.times l.marks)))
     × (l.at + total (drop l.k l.lens) ≡ length l.xs)
-
-abbrev pub decreases-loop-k : goal.decreases-loop-k
-decreases-loop-k l = length l.lens - l.k

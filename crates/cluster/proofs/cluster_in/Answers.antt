@@ -1,6 +1,7 @@
 -- `cluster::cluster_in` meets its contract.
-use mathlib.Core.Path.{◌∙◌}
+use mathlib.Core.Path.{sym, ◌∙◌}
 use native.Mathlib.Omega.{arith}
+use lib.Seq.{length-take-le}
 use Rattle.cluster.proofs.FoundNodes.{places_long, found_nodes, found_few, found_rise, found_long}
 use Rattle.cluster.proofs.cluster_in.Goals as goal
 
@@ -17,7 +18,19 @@ slice_bounds-group_and_label-end c =
 pub slice_bounds-group_and_label-end-2 : goal.slice_bounds-group_and_label-end-2
 slice_bounds-group_and_label-end-2 c =
     let p = c.requires in
+    let f = found_few _ _ _ _ p.0 _ _ _ c.fill_table.ensures _ _ _ c.find_nodes-k.ensures in
+    sym (length-take-le _ _ (omega (arith, f, c.find_nodes-k.auto.nodes, p.1)))
+
+pub slice_bounds-group_and_label-end-3 : goal.slice_bounds-group_and_label-end-3
+slice_bounds-group_and_label-end-3 c =
+    let p = c.requires in
     omega (arith, found_few _ _ _ _ p.0 _ _ _ c.fill_table.ensures _ _ _ c.find_nodes-k.ensures, p.2)
+
+pub slice_bounds-group_and_label-end-4 : goal.slice_bounds-group_and_label-end-4
+slice_bounds-group_and_label-end-4 c =
+    let p = c.requires in
+    let f = found_few _ _ _ _ p.0 _ _ _ c.fill_table.ensures _ _ _ c.find_nodes-k.ensures in
+    sym (length-take-le _ _ (omega (arith, f, p.2)))
 
 pub group_and_label-requires : goal.group_and_label-requires
 group_and_label-requires c =

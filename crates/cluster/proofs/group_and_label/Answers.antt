@@ -3,23 +3,8 @@ use mathlib.Core.Path.{sym, ap, ◌∙◌}
 use native.Mathlib.Omega.{arith}
 use Rattle.map_state.specs.Network.{Network}
 use Rattle.infomap.specs.Infomap.{run_infomap}
-use Rattle.cluster.proofs.Clustered.{cells_few, cells_in, rows_front, labels_few, network_front, cluster_is}
+use Rattle.cluster.proofs.Clustered.{labels_few, network_front, cluster_is}
 use Rattle.cluster.proofs.group_and_label.Goals as goal
-
-pub overflow_mul-cells : goal.overflow_mul-cells
-overflow_mul-cells c =
-    let p = c.requires in
-    record { fits = omega (arith, cells_few _ _ p.4.few p.0) }
-
-pub slice_bounds-run_infomap-end : goal.slice_bounds-run_infomap-end
-slice_bounds-run_infomap-end c =
-    let p = c.requires in
-    omega (arith, cells_in _ _ p.4.few, c.compact.auto.table, p.1)
-
-pub run_infomap-kept-requires : goal.run_infomap-kept-requires
-run_infomap-kept-requires c =
-    let p = c.requires in
-    rows_front _ c.args.n _ p.4.few p.0 (c.compact.auto.table ∙ p.1) p.2
 
 pub label_places-requires : goal.label_places-requires
 label_places-requires c =

@@ -1,12 +1,8 @@
 -- `codelength::exit_weights` meets its contract. The loop: what is left to add, added to the sum so far, is the whole sum.
 use mathlib.Core.Path.{◌≡◌}
-use Prim.Native.Nat.{◌-◌}
-use lib.ListN.{length, drop}
+use lib.ListN.{drop}
 use Rattle.codelength.specs.Codelength.{exit_from}
 use Rattle.codelength.proofs.exit_weights.Given as goal
 
 abbrev pub invariant-loop-v : goal.invariant-loop-v
 invariant-loop-v l = exit_from l.g l.a (drop l.v l.partition) (drop l.v l.row) ≡ exit_from l.g l.initial.a l.partition l.row
-
-abbrev pub decreases-loop-v : goal.decreases-loop-v
-decreases-loop-v l = length l.partition - l.v

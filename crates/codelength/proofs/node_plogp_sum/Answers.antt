@@ -5,12 +5,12 @@ use Rattle.float.specs.Binary64.{add64}
 use Rattle.codelength.proofs.Sums.{nodes_on, nodes_end}
 use Rattle.codelength.proofs.node_plogp_sum.Goals as goal
 
-pub loop-v-init : goal.loop-v-init
-loop-v-init c = refl
+pub loop-s-init : goal.loop-s-init
+loop-s-init c = refl
 
-pub loop-v-preserved : goal.loop-v-preserved
-loop-v-preserved c =
-    nodes_on _ _ _ _ _ c.loop-v-test.true (ap (λ (x : Float). add64 c.loop-v.a x) c.plogp-a.ensures) ∙ c.loop-v.invariant
+pub loop-s-preserved : goal.loop-s-preserved
+loop-s-preserved c =
+    nodes_on _ _ _ _ _ c.loop-s-test.true (ap (λ (x : Float). add64 c.loop-s.a x) c.plogp-a.ensures) ∙ c.loop-s.invariant
 
 pub returns : goal.returns
-returns c = nodes_end _ _ _ _ c.loop-v-test.false ∙ c.loop-v.invariant
+returns c = nodes_end _ _ _ _ c.loop-s-test.false ∙ c.loop-s.invariant

@@ -2,16 +2,13 @@
 use mathlib.Core.Path.{◌≡◌}
 use Prim.Native.Nat.{◌-◌}
 use lib.ListN.{length}
-use lib.Ieee.{Float}
-use Rattle.map_state.specs.Steps.{net_of}
-use Rattle.codelength.specs.Codelength.{add_nodes_from, module_sums, sums_of}
+use Rattle.codelength.specs.Codelength.{add_nodes_from, module_sums}
+use Rattle.codelength.specs.Steps.{sums_in}
 use Rattle.codelength.proofs.sum_modules.Given as goal
 
 abbrev pub invariant-loop-v : goal.invariant-loop-v
-invariant-loop-v l =
-    ((d : Float) → add_nodes_from (net_of l.table l.stride l.strength d) l.partition (sums_of l.exits l.strengths) l.v (length l.partition - l.v) ≡ module_sums
-    (net_of l.table l.stride l.strength d) l.partition)
-    × (length l.exits ≡ length l.initial.exits) × (length l.strengths ≡ length l.initial.strengths)
-
-abbrev pub decreases-loop-v : goal.decreases-loop-v
-decreases-loop-v l = length l.partition - l.v
+invariant-loop-v l = record {
+  added : add_nodes_from l.net l.fn.s.partition (sums_in l.s) l.v (length l.fn.s.partition - l.v) ≡ module_sums l.net l.fn.s.partition;
+  part : l.s.partition ≡ l.fn.s.partition;
+  same_q : l.s.q_sum ≡ l.fn.s.q_sum;
+}

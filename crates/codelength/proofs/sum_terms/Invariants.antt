@@ -6,7 +6,4 @@ use Rattle.codelength.specs.Codelength.{terms_from, terms}
 use Rattle.codelength.proofs.sum_terms.Given as goal
 
 abbrev pub invariant-loop-v : goal.invariant-loop-v
-invariant-loop-v l = terms_from l.d l.partition l.exits l.strengths l.t l.v (length l.partition - l.v) ≡ terms l.d l.partition l.exits l.strengths
-
-abbrev pub decreases-loop-v : goal.decreases-loop-v
-decreases-loop-v l = length l.partition - l.v
+invariant-loop-v l = terms_from l.d l.s.partition l.s.exits l.s.strengths l.t l.v (length l.s.partition - l.v) ≡ terms l.d l.s.partition l.s.exits l.s.strengths

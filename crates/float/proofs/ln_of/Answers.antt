@@ -1,17 +1,12 @@
 -- `float::ln_of` meets its contract.
 use mathlib.Core.Path.{ap}
-use lib.Ieee.{Float, nan_bits}
-use borrow.Author.Rules.{rules}
+use lib.Ieee.{Float, of_bits}
 use Rattle.float.specs.Binary64.{add64, sub64, mul64, div64, one64, two64}
 use Rattle.float.specs.Ln.{ln2, ln_of}
 use Rattle.float.proofs.ln_of.Goals as goal
 
-pub float_from_bits-result : goal.float_from_bits-result
-unfolding nan_bits
-float_from_bits-result c = search rules
-
 pub returns : goal.returns
-unfolding ln_of
+unfolding ln_of of_bits
 returns c =
     let args = c.args in
     let s = div64 (sub64 args.m one64) (add64 args.m one64) in

@@ -1,16 +1,14 @@
 -- `infomap::best_of_three` meets its contract. The loop: the trials that are left, from what is kept so far, give the kept grouping.
 use mathlib.Core.Path.{◌≡◌}
+use Prim.Native.Nat.{◌-◌}
 use lib.ListN.{length}
-use Rattle.map_state.specs.Steps.{net_of, Sized}
 use Rattle.infomap.specs.Infomap.{trials, best_of_three}
 use Rattle.infomap.specs.Steps.{grouping_of}
 use Rattle.infomap.proofs.best_of_three.Given as goal
 
-abbrev pub invariant-loop-left : goal.invariant-loop-left
-invariant-loop-left l =
-    (trials (net_of l.table l.stride l.strength l.d) l.left l.x (grouping_of l.best l.k) ≡ best_of_three (net_of l.table l.stride l.strength l.d) l.initial.x) ×
-    (Sized l.table l.stride l.strength l.partition l.first l.exits l.strengths) × (length l.partition ≡ length l.initial.partition) × (length l.first ≡ length l.initial.first) ×
-    (length l.exits ≡ length l.initial.exits) × (length l.strengths ≡ length l.initial.strengths) × (length l.order ≡ length l.initial.order) × (length l.best ≡ length l.initial.best)
-
-abbrev pub decreases-loop-left : goal.decreases-loop-left
-decreases-loop-left l = l.left
+abbrev pub invariant-loop : goal.invariant-loop
+invariant-loop l = record {
+  left : trials l.net (3 - l.counter) l.x (grouping_of l.best l.k) ≡ best_of_three l.net l.fn.rng;
+  long : length l.best ≡ length l.fn.best;
+  nodes : length l.net.strength ≡ length l.t.state.partition;
+}

@@ -1,23 +1,24 @@
 -- `infomap::keep` meets its contract.
-use Rattle.map_state.specs.Steps.{net_of}
+use mathlib.Core.Path.{sym, ◌∙◌, ap}
+use lib.ListN.{length}
+use Rattle.map_state.specs.MapState.{MapState}
+use Rattle.optimize.specs.Steps.{run_of}
 use Rattle.infomap.specs.Steps.{grouping_of}
 use Rattle.infomap.proofs.Trials.{keep_yes, keep_no}
 use Rattle.infomap.proofs.keep.Goals as goal
 
-pub copy-requires : goal.copy-requires
-copy-requires c =
-    c.requires.2
+pub copy_from_slice-requires : goal.copy_from_slice-requires
+copy_from_slice-requires c =
+    let e = ap (λ (s : MapState). s.partition) c.map_equation-l.ensures.1 in
+    c.requires.1 ∙ sym (ap length (c.partition.ensures.0 ∙ e))
 
-pub returns-then-l-limit : goal.returns-then-l-limit
-returns-then-l-limit c =
+pub returns-then-l-k : goal.returns-then-l-k
+returns-then-l-k c =
     let a = c.args in
-    let net = net_of a.table.now a.stride a.strength.now a.d in
-    λ s p q r. keep_yes net (grouping_of a.best.now a.k) s p
-    c.map_equation-l.ensures.0 q r c.if-l-limit.true c.copy.ensures c.trial_mark.ensures
+    let p = ap (λ (s : MapState). s.partition) c.map_equation-l.ensures.1 in
+    (keep_yes a.net.now (grouping_of a.best.now a.k) (run_of a.t.now) c.map_equation-l.ensures.0 c.if-l-k.true (c.copy_from_slice.ensures.after ∙ c.partition.ensures.0 ∙ p) c.trial_mark.ensures, p)
 
 pub returns : goal.returns
 returns c =
     let a = c.args in
-    let net = net_of a.table.now a.stride a.strength.now a.d in
-    λ s p q r. keep_no net (grouping_of a.best.now a.k) s p
-    c.map_equation-l.ensures.0 c.if-l-limit.false
+    (keep_no a.net.now (grouping_of a.best.now a.k) (run_of a.t.now) c.map_equation-l.ensures.0 c.if-l-k.false, ap (λ (s : MapState). s.partition) c.map_equation-l.ensures.1)

@@ -1,45 +1,48 @@
 -- `infomap::relabel_dense` meets its contract. The loop has labelled the nodes below v, and `next` counts the groups whose first member is below v.
-use mathlib.Core.Path.{refl, ◌∙◌}
+use mathlib.Core.Path.{◌≡◌, refl, ◌∙◌}
 use native.Mathlib.Omega.{arith}
-use lib.ListN.{length-set}
+use lib.ListN.{length-set, get_or}
 use Rattle.infomap.specs.Infomap.{rank}
-use Rattle.map_state.proofs.Leaders.{lowest_of}
+use Rattle.map_state.specs.MapState.{lowest}
 use Rattle.lists.proofs.Stores.{stored_below}
-use Rattle.infomap.proofs.Labels.{label_at, rank_on, rank_le, label_on, is_relabelled}
+use Rattle.map_state.proofs.Chains.{found}
+use Rattle.infomap.proofs.Labels.{label_at, label_seen, rank_seen, label_new, rank_new, first_if_none, first_if_above, rank_le, is_relabelled}
 use Rattle.infomap.proofs.relabel_dense.Goals as goal
+use Rattle.infomap.proofs.relabel_dense.Goals.{in-Some, in_default, in_default-via-in-Some+else-f-v, in_default-via-in_default}
 
 pub loop-v-init : goal.loop-v-init
 unfolding rank
 loop-v-init c = ((λ k h. absurd (omega arith)), refl, refl)
 
-pub offset_bounds-labels-f : goal.offset_bounds-labels-f
-offset_bounds-labels-f c =
-    let a = c.args in
-    omega (arith, c.lowest-f.ensures, lowest_of a.partition.now c.loop-v.v c.loop-v-test.true, c.requires.1)
-
-pub bounds-labels-f : goal.bounds-labels-f
-bounds-labels-f c =
-    let a = c.args in
-    omega (arith, c.lowest-f.ensures, lowest_of a.partition.now c.loop-v.v c.loop-v-test.true)
-
 pub overflow_add-next : goal.overflow_add-next
 overflow_add-next c =
-    let a = c.args in
-    omega (arith, c.loop-v.invariant.1, rank_le a.partition.now c.loop-v.v, c.requires.1, c.loop-v-test.true)
+    omega (arith, c.loop-v.invariant.1, rank_le c.args.partition.now c.loop-v.v, c.requires.1, c.loop-v-test.true)
 
 pub loop-v-preserved : goal.loop-v-preserved
 loop-v-preserved c =
-    let a = c.args in
     let l = c.loop-v in
-    let f = c.lowest-f.ensures in (
-      stored_below _ l.labels l.v c.choose.result (omega arith) (label_at a.partition.now) l.invariant.0
-          (label_on a.partition.now l.labels l.v c.loop-v-test.true f l.invariant.1 l.invariant.0 c.choose.ensures),
-      rank_on a.partition.now l.v f l.invariant.1 c.choose-next.ensures,
-      simp length-set (omega arith),
-    )
-
-pub shape_of-labels : goal.shape_of-labels
-shape_of-labels c = c.loop-v.invariant.2
+    let part = c.args.partition.now in
+    let h = c.loop-v-test.true in
+    elim c.match-lowest.branch [
+      | in-Some w ↦
+          let f = found (get_or part l.v 0) part c.lowest.ensures w.in-Some.is in
+          rw (w.labels-is, w.next-is) (
+            stored_below _ l.labels l.v _ (omega arith) (label_at part) l.invariant.0 (label_seen part l.labels l.v h f.0 l.invariant.1 w.if-f-v.true l.invariant.0),
+            rank_seen part l.labels l.v h f.0 l.invariant.1 w.if-f-v.true,
+            simp length-set (omega arith),
+          )
+      | in_default w ↦
+          let first : l.v ≡ lowest (get_or part l.v 0) part =
+          elim w.in_default.branch [
+            | in_default-via-in-Some+else-f-v s ↦ first_if_above part l.v h c.lowest.ensures s.in-Some.is s.if-f-v.false
+            | in_default-via-in_default s ↦ first_if_none part l.v h c.lowest.ensures s.in_default.is
+          ] in
+          rw (w.labels-is, w.next-is) (
+            stored_below _ l.labels l.v _ (omega arith) (label_at part) l.invariant.0 (label_new part l.v first l.invariant.1),
+            rank_new part l.v first l.invariant.1,
+            simp length-set (omega arith),
+          )
+    ]
 
 pub returns : goal.returns
 returns c =

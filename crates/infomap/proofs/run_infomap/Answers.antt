@@ -1,18 +1,26 @@
 -- `infomap::run_infomap` meets its contract.
-use mathlib.Core.Path.{◌≡◌, refl, sym}
+use mathlib.Core.Path.{◌≡◌, sym, ◌∙◌, ap}
 use native.Mathlib.Omega.{arith}
-use Prim.Native.Nat.{ℕ, ◌-◌, ◌≤◌}
-use lib.ListN.{length, replicate, take, drop}
-use lib.Ieee.{Float}
-use Rattle.float.specs.Binary64.{zero64}
-use Rattle.infomap.proofs.Trials.{part_of, sized_parts}
+use Prim.Native.Nat.{ℕ}
+use lib.ListN.{length, take, replicate}
+use lib.Seq.{length-take-le, take_at}
+use Rattle.map_state.specs.Network.{Network, network}
+use Rattle.map_state.proofs.Rows.{length_network}
+use Rattle.infomap.specs.Infomap.{kept_grouping, relabel_dense}
+use Rattle.infomap.specs.Steps.{grouping_of}
+use Rattle.infomap.proofs.Trials.{run_is}
 use Rattle.infomap.proofs.run_infomap.Goals as goal
 
-pub run_in-requires : goal.run_in-requires
-run_in-requires c =
-    let p = c.requires in
+pub kept_grouping-k-requires : goal.kept_grouping-k-requires
+kept_grouping-k-requires c =
     let n = length c.args.labels.now in
-    let few : n ≤ 512 = omega (arith, p.wide, p.narrow) in
-    let i : length (take (n - 0) (drop 0 (replicate {A = ℕ} 512 0))) ≡ n = part_of (replicate {A = ℕ} 512 0) n few in
-    let f : length (take (n - 0) (drop 0 (replicate {A = Float} 512 zero64))) ≡ n = part_of (replicate {A = Float} 512 zero64) n few in
-    (sized_parts _ _ n _ _ _ _ _ p f i i f f, refl, refl, sym i, rw i p)
+    let e : length (take n (replicate {A = ℕ} 512 0)) ≡ n = length-take-le n (replicate 512 0) (omega (arith, c.requires.wide, c.requires.narrow)) in
+    e ∙ sym (ap (λ (x : Network). length x.strength) c.new-net.ensures ∙ length_network c.args.table.now c.args.stride n)
+
+pub returns : goal.returns
+returns c =
+    let k = length c.args.labels.now in
+    let n = network c.args.table.now c.args.stride k in
+    let e : length (take k (replicate {A = ℕ} 512 0)) ≡ k = length-take-le k (replicate 512 0) (omega (arith, c.requires.wide, c.requires.narrow)) in
+    run_is n c.args.seed (grouping_of c.kept_grouping-k.new.best c.kept_grouping-k.result) (c.kept_grouping-k.ensures ∙ ap (λ (x : Network). kept_grouping x c.args.seed) c.new-net.ensures)
+    (c.relabel_dense.ensures ∙ ap relabel_dense (take_at c.kept_grouping-k.new.best _ k (c.kept_grouping-k.auto.best ∙ e)))

@@ -1,12 +1,10 @@
 -- `input::finish` meets its contract.
-use Rattle.input.proofs.Joined.{ends_whole, ends_broken, more_goes_on, failed_is_no_end}
+use Rattle.std.proofs.Common.{refl}
+use Rattle.input.proofs.Joined.{no_end, ends_whole, ends_broken}
 use Rattle.input.proofs.finish.Goals as goal
 
 pub returns-in-End : goal.returns-in-End
 returns-in-End c = ends_whole c.in-End.is c.finish.ensures
 
 pub returns-in-More : goal.returns-in-More
-returns-in-More c = ends_broken (more_goes_on c.in-More.is) c.refuse_unread.ensures
-
-pub returns-in-Failed : goal.returns-in-Failed
-returns-in-Failed c = ends_broken (failed_is_no_end c.in-Failed.is) c.refuse_unread-in-Failed.ensures
+returns-in-More c = ends_broken (no_end c.in-More.is) refl

@@ -6,28 +6,12 @@ use native.Mathlib.Omega.{arith}
 use lib.ListN.{length, take, drop, length-set}
 use Rattle.float.specs.Binary64.{zero64}
 use Rattle.map_state.specs.Network.{add_weights, row_at}
-use Rattle.map_state.proofs.Rows.{row_inside, is_strengths}
+use Rattle.map_state.proofs.Rows.{is_strengths}
 use Rattle.lists.proofs.Stores.{stored_below}
 use Rattle.map_state.proofs.sum_strengths.Goals as goal
 
 pub loop-u-init : goal.loop-u-init
 loop-u-init c = ((λ k h. absurd (omega arith)), refl, refl)
-
-pub overflow_mul-a : goal.overflow_mul-a
-overflow_mul-a c =
-    omega (arith, row_inside _ _ _ c.loop-u.u c.requires (omega arith))
-
-pub overflow_add-e : goal.overflow_add-e
-overflow_add-e c =
-    omega (arith, row_inside _ _ _ c.loop-u.u c.requires (omega arith))
-
-pub offset_bounds-table-a : goal.offset_bounds-table-a
-offset_bounds-table-a c =
-    omega (arith, row_inside _ _ _ c.loop-u.u c.requires (omega arith))
-
-pub slice_bounds-add_weights-end : goal.slice_bounds-add_weights-end
-slice_bounds-add_weights-end c =
-    omega (arith, row_inside _ _ _ c.loop-u.u c.requires (omega arith))
 
 pub loop-u-preserved : goal.loop-u-preserved
 loop-u-preserved c =

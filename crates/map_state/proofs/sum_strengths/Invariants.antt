@@ -1,6 +1,6 @@
 -- `map_state::sum_strengths` meets its contract. The loop has written the strengths of the nodes below u.
 use mathlib.Core.Path.{◌≡◌}
-use Prim.Native.Nat.{ℕ, ◌-◌, ◌<◌}
+use Prim.Native.Nat.{ℕ, ◌<◌}
 use lib.ListN.{length, get_or}
 use lib.Ieee.{nan}
 use Rattle.float.specs.Binary64.{zero64}
@@ -11,6 +11,3 @@ abbrev pub invariant-loop-u : goal.invariant-loop-u
 invariant-loop-u l =
     ((k : ℕ) → k < l.u → get_or l.strength k nan ≡ add_weights zero64 (row_at l.table l.stride (length l.initial.strength) k)) × (length l.strength ≡ length l.initial.strength) ×
     (l.n ≡ length l.initial.strength)
-
-abbrev pub decreases-loop-u : goal.decreases-loop-u
-decreases-loop-u l = l.n - l.u

@@ -1,40 +1,11 @@
 -- `map_state::total_weight` meets its contract. The loop: the links of the nodes from u on, added to the sum so far, give the total.
 use mathlib.Core.Path.{◌∙◌}
 use native.Mathlib.Nat.{sub-zero}
-use native.Mathlib.Omega.{arith}
-use Rattle.map_state.proofs.Rows.{row_inside, row_above, total_on, total_end}
+use Rattle.map_state.proofs.Rows.{row_above, total_on, total_end}
 use Rattle.map_state.proofs.total_weight.Goals as goal
 
 pub loop-u-init : goal.loop-u-init
 loop-u-init c = rw sub-zero
-
-pub overflow_mul-a : goal.overflow_mul-a
-overflow_mul-a c =
-    omega (arith, row_inside _ _ _ c.loop-u.u c.requires (omega arith))
-
-pub overflow_add-a : goal.overflow_add-a
-overflow_add-a c =
-    omega (arith, row_inside _ _ _ c.loop-u.u c.requires (omega arith))
-
-pub overflow_add-a-in-loop-u : goal.overflow_add-a-in-loop-u
-overflow_add-a-in-loop-u c =
-    omega (arith, row_inside _ _ _ c.loop-u.u c.requires (omega arith))
-
-pub overflow_mul-e : goal.overflow_mul-e
-overflow_mul-e c =
-    omega (arith, row_inside _ _ _ c.loop-u.u c.requires (omega arith))
-
-pub overflow_add-e : goal.overflow_add-e
-overflow_add-e c =
-    omega (arith, row_inside _ _ _ c.loop-u.u c.requires (omega arith))
-
-pub offset_bounds-table-a : goal.offset_bounds-table-a
-offset_bounds-table-a c =
-    omega (arith, row_inside _ _ _ c.loop-u.u c.requires (omega arith))
-
-pub slice_bounds-add_weights-end : goal.slice_bounds-add_weights-end
-slice_bounds-add_weights-end c =
-    omega (arith, row_inside _ _ _ c.loop-u.u c.requires (omega arith))
 
 pub loop-u-preserved : goal.loop-u-preserved
 loop-u-preserved c =

@@ -6,6 +6,3 @@ use Rattle.map_state.proofs.total_weight.Given as goal
 
 abbrev pub invariant-loop-u : goal.invariant-loop-u
 invariant-loop-u l = total_from l.table l.stride l.n l.t l.u (l.n - l.u) ≡ total_weight l.table l.stride l.n
-
-abbrev pub decreases-loop-u : goal.decreases-loop-u
-decreases-loop-u l = l.n - l.u

@@ -1,50 +1,31 @@
 -- `optimize::optimize_partition` meets its contract.
-use mathlib.Core.Path.{refl, sym, ◌∙◌, ap}
+use mathlib.Core.Path.{◌≡◌, refl, sym, ◌∙◌, ap}
+use native.Mathlib.Omega.{arith}
 use lib.ListN.{length}
-use Rattle.map_state.specs.Steps.{net_of}
-use Rattle.map_state.proofs.Leaders.{firsts_list}
 use Rattle.lists.specs.Lists.{upto}
-use Rattle.map_state.proofs.Rows.{sized_kept}
-use Rattle.optimize.proofs.Start.{firsts_filled, at_most_filled, optimize_partition_is, last_visits_is}
+use Rattle.lists.proofs.Upto.{length_upto}
+use Rattle.map_state.specs.MapState.{MapState}
+use Rattle.codelength.specs.Codelength.{from_partition}
+use Rattle.optimize.proofs.Start.{at_most_filled, optimize_partition_is, last_visits_is}
 use Rattle.optimize.proofs.optimize_partition.Goals as goal
 
-pub from_partition-q-requires : goal.from_partition-q-requires
-from_partition-q-requires c =
-    let a = c.args in (
-      sized_kept c.requires.0 c.fill.auto.s c.fill-2.auto.s refl refl,
-      firsts_filled (length c.args.partition.now) c.fill.ensures
-          (c.fill-2.ensures ∙ ap upto c.requires.0.firsts),
-    )
+pub from_partition-requires : goal.from_partition-requires
+from_partition-requires c =
+    c.requires.0 ∙ sym (ap length c.scatter.ensures.0 ∙ length_upto _)
 
 pub run_rounds-requires : goal.run_rounds-requires
+unfolding from_partition
 run_rounds-requires c =
-    let a = c.args in (
-      (
-        sized_kept c.requires.0 c.fill.auto.s c.fill-2.auto.s
-            c.from_partition-q.auto.exits c.from_partition-q.auto.strengths,
-        firsts_filled (length c.args.partition.now) c.fill.ensures
-            (c.fill-2.ensures ∙ ap upto c.requires.0.firsts),
-        c.requires.1 ∙ sym c.fill.auto.s,
-        at_most_filled (length a.partition.now) c.requires.0.few c.fill.ensures,
-      ),
-      refl,
-    )
-
-pub shape_of-partition : goal.shape_of-partition
-shape_of-partition c =
-    c.run_rounds.auto.partition ∙ c.fill.auto.s
+    let n = length c.args.r.now.state.partition in
+    let p : c.from_partition.new.s.partition ≡ upto n = ap (λ (s : MapState). s.partition) c.from_partition.ensures ∙ c.scatter.ensures.0 in
+    let l : length c.from_partition.new.s.partition ≡ n = ap length p ∙ length_upto n in
+    ((c.requires.0 ∙ sym l, c.requires.1 ∙ c.requires.0 ∙ sym l, omega (arith, c.requires.0, c.requires.1, c.scatter.ensures.1), at_most_filled n c.scatter.ensures.1 p), refl)
 
 pub returns : goal.returns
 returns c =
-    let a = c.args in
-    let net = net_of a.table.now a.stride a.strength.now a.d in
+    let net = c.args.net.now in
+    let n = length c.args.r.now.state.partition in
     record {
-      run = optimize_partition_is net a.rng (length a.partition.now) (sym c.requires.0.nodes) c.fill.ensures
-          c.from_partition-q.ensures c.run_rounds.ensures.0;
-      firsts = firsts_list _ _
-          (c.run_rounds.auto.first ∙ c.fill-2.auto.s ∙ c.requires.0.firsts ∙ sym
-          (c.run_rounds.auto.partition ∙ c.fill.auto.s))
-          c.run_rounds.ensures.1;
-      visited = last_visits_is net a.rng (length a.partition.now) a.order.now (sym c.requires.0.nodes) c.fill.ensures
-          c.from_partition-q.ensures c.run_rounds.ensures.2;
+      run = optimize_partition_is net c.args.rng n (sym c.requires.0) c.scatter.ensures.0 c.from_partition.ensures c.run_rounds.ensures.0;
+      visited = last_visits_is net c.args.rng n c.args.order.now (sym c.requires.0) c.scatter.ensures.0 c.from_partition.ensures c.run_rounds.ensures.1;
     }

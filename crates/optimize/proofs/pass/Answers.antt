@@ -1,84 +1,37 @@
--- `optimize::pass` meets its contract. The loop: the pass over the nodes from i on, from the state so far, is the whole pass. Numbers grow by one a node at most.
-use mathlib.Core.Path.{refl, ◌∙◌}
+-- `optimize::pass` meets its contract. The loop: the pass over the nodes that are left, from the state so far, is the whole pass. Numbers grow by one a node at most.
+use mathlib.Core.Path.{refl, sym, ◌∙◌, ap}
 use native.Mathlib.Omega.{arith}
 use Prim.Native.Nat.{◌+◌}
-use Rattle.map_state.specs.Steps.{net_of}
-use Rattle.optimize.specs.Steps.{pass_of, asked}
-use Rattle.map_state.proofs.Rows.{sized_kept}
-use Rattle.optimize.proofs.Passes.{pass_on, pass_end, node_in}
-use Rattle.optimize.proofs.Numbers.{highest_le, act_asked_at_most, at_most_more}
+use lib.ListN.{length}
+use Rattle.optimize.specs.Rounds.{Pass}
+use Rattle.optimize.specs.Steps.{pass_of}
+use Rattle.optimize.proofs.Passes.{pass_on, pass_end, node_in, act_length}
+use Rattle.optimize.proofs.Numbers.{highest_le, act_asked_at_most}
 use Rattle.optimize.proofs.pass.Goals as goal
 
-pub loop-i-init : goal.loop-i-init
-loop-i-init c = (
-  refl,
-  c.requires.0,
-  c.requires.1,
-  refl,
-  refl,
-  refl,
-  refl,
-  omega arith,
-  at_most_more 900000 (900000 + 0) c.args.partition.now (omega arith) c.requires.4,
-)
-
 pub ask-a-requires : goal.ask-a-requires
-ask-a-requires c = (
-  c.loop-i.invariant.1,
-  node_in _ c.loop-i.partition _ c.loop-i.i c.wide-u.ensures c.requires.2 c.loop-i-test.true c.loop-i.invariant.3,
-  c.loop-i.invariant.2,
-  omega (arith, highest_le (900000 + c.loop-i.i) c.loop-i.partition c.loop-i.invariant.8, c.requires.3),
-)
-
-pub act-w-requires : goal.act-w-requires
-act-w-requires c = (
-  c.loop-i.invariant.1,
-  node_in _ c.loop-i.partition _ c.loop-i.i c.wide-u.ensures c.requires.2 c.loop-i-test.true c.loop-i.invariant.3,
-  c.loop-i.invariant.2,
-)
-
-pub overflow_add-i : goal.overflow_add-i
-overflow_add-i c =
-    omega (arith, c.loop-i-test.true, c.requires.3)
-
-pub loop-i-preserved : goal.loop-i-preserved
-loop-i-preserved c =
-    let a = c.args in
-    let net = net_of a.table.now a.stride a.strength.now a.d in
-    let l = c.loop-i in (
-      pass_on (asked a.alone) net
-          (pass_of l.partition l.exits l.strengths l.w) a.order.now l.i c.loop-i-test.true c.wide-u.ensures
-          c.ask-a.ensures c.act-w.ensures.0 ∙ l.invariant.0,
-      sized_kept l.invariant.1 c.act-w.auto.partition c.act-w.auto.first
-          c.act-w.auto.exits c.act-w.auto.strengths,
-      c.act-w.ensures.1,
-      c.act-w.auto.partition ∙ l.invariant.3,
-      c.act-w.auto.first ∙ l.invariant.4,
-      c.act-w.auto.exits ∙ l.invariant.5,
-      c.act-w.auto.strengths ∙ l.invariant.6,
-      omega arith,
-      act_asked_at_most l.i a.alone net
-          (pass_of l.partition l.exits l.strengths l.w) _ l.invariant.8 c.ask-a.ensures c.act-w.ensures.0,
+ask-a-requires g c =
+    let l = c.loop-u in (
+      (c.requires.0.0 ∙ sym l.invariant.long, node_in _ l.s.partition _ l.u-index refl c.requires.0.1 c.loop-u-test.true l.invariant.long),
+      omega (arith, highest_le (900000 + l.u-index) l.s.partition l.invariant.most, c.requires.0.2, c.loop-u-test.true),
     )
 
-pub shape_of-partition : goal.shape_of-partition
-shape_of-partition c = c.loop-i.invariant.3
+pub act-moved-requires : goal.act-moved-requires
+act-moved-requires g c =
+    let l = c.loop-u in
+    (c.requires.0.0 ∙ sym l.invariant.long, node_in _ l.s.partition _ l.u-index refl c.requires.0.1 c.loop-u-test.true l.invariant.long)
 
-pub shape_of-first : goal.shape_of-first
-shape_of-first c = c.loop-i.invariant.4
-
-pub shape_of-exits : goal.shape_of-exits
-shape_of-exits c = c.loop-i.invariant.5
-
-pub shape_of-strengths : goal.shape_of-strengths
-shape_of-strengths c = c.loop-i.invariant.6
+pub loop-u-preserved : goal.loop-u-preserved
+loop-u-preserved g c =
+    let a = c.args in
+    let l = c.loop-u in
+    let w = pass_of l.s l.moved in record {
+      left = pass_on g.A.Ask.answer a.net.now w a.order.now l.u-index c.loop-u-test.true refl c.ask-a.ensures c.act-moved.ensures ∙ l.invariant.left;
+      long = ap (λ (x : Pass). length x.state.partition) c.act-moved.ensures ∙ act_length a.net.now w _ _ ∙ l.invariant.long;
+      most = act_asked_at_most l.u-index g.A.Ask.answer a.net.now w _ c.requires.1 l.invariant.most c.ask-a.ensures c.act-moved.ensures;
+    }
 
 pub returns : goal.returns
-returns c =
-    let a = c.args in
-    let net = net_of a.table.now a.stride a.strength.now a.d in
-    let l = c.loop-i in (
-      pass_end (asked a.alone) net
-          (pass_of l.partition l.exits l.strengths l.w) a.order.now l.i c.loop-i-test.false ∙ l.invariant.0,
-      l.invariant.2,
-    )
+returns g c =
+    let l = c.loop-u in
+    pass_end g.A.Ask.answer c.args.net.now (pass_of l.s l.moved) c.args.order.now l.u-index c.loop-u-test.false ∙ l.invariant.left

@@ -1,7 +1,6 @@
 -- `replay::room` meets its contract.
-use mathlib.Core.Path.{◌≡◌, refl, sym}
-use Prim.Native.Nat.{ℕ}
-use lib.ListN.{length, replicate, length-replicate}
+use Rattle.std.proofs.Common.{◌≡◌, ℕ, length, replicate, sym}
+use lib.ListN.{length-replicate}
 use Rattle.replay.proofs.room.Goals as goal
 
 -- at a number that is not given: a list of 1,000,000 is not to be computed
@@ -9,4 +8,4 @@ long : (n : ℕ) → n ≡ length {A = ℕ} (replicate n 0)
 long n = sym (length-replicate n 0)
 
 pub returns : goal.returns
-returns c = (long 1000000, refl)
+returns c = long 1000000

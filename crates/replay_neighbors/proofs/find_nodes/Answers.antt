@@ -1,10 +1,10 @@
 -- `replay_neighbors::find_nodes` meets its contract: the rows with a weight rise.
 use mathlib.Core.Path.{◌≡◌}
 use mathlib.Core.List.{List}
-use Prim.Native.Nat.{ℕ, ◌-◌, ◌≤◌}
-use native.Mathlib.Nat.{sub-zero}
+use Prim.Native.Nat.{ℕ, ◌≤◌}
 use native.Mathlib.Omega.{arith}
 use lib.ListN.{length, take}
+use Rattle.std.proofs.Common.{length-take-le}
 use lib.Ieee.{Float}
 use Rattle.lists.specs.Lists.{upto, select, overlay}
 use Rattle.lists.proofs.Overlay.{take_front}
@@ -17,23 +17,24 @@ few : (n : ℕ) (t : List Float) (k : ℕ) → k ≡ length (rows_with_weight n 
 unfolding rows_with_weight
 few n t k e = omega (arith, select_length (has_weight n t) (upto n), length_upto n)
 
-rise : (n : ℕ) (t : List Float) (l₀ l : List ℕ) (k : ℕ) → (k ≡ length (rows_with_weight n t)) × (l ≡ overlay (rows_with_weight n t) l₀) → RowNumbers n (take (k - 0) l)
+rise : (n : ℕ) (t : List Float) (l₀ l : List ℕ) (k : ℕ) → (k ≡ length (rows_with_weight n t)) × (l ≡ overlay (rows_with_weight n t) l₀) → RowNumbers n (take k l)
 unfolding rows_with_weight
-rise n t l₀ l k e = rw (sub-zero k, take_front (rows_with_weight n t) l₀ l k e.0 e.1) record {
+rise n t l₀ l k e = rw (take_front (rows_with_weight n t) l₀ l k e.0 e.1) record {
   few = omega (arith, select_length (has_weight n t) (upto n), length_upto n);
   above = select_at_least (has_weight n t) n;
   below = λ u h. has_upto n _ (select_in (has_weight n t) (upto n) _ (has_at (select (has_weight n t) (upto n)) u h));
 }
 
 pub slice_bounds-compact-end : goal.slice_bounds-compact-end
-slice_bounds-compact-end c =
-    let r = few _ _ _ c.find_nodes-k.ensures.0 in
-    omega arith
+slice_bounds-compact-end c = omega (arith, few _ _ _ c.find_nodes-k.ensures.0)
+
+pub slice_bounds-compact-end-2 : goal.slice_bounds-compact-end-2
+slice_bounds-compact-end-2 c =
+    omega (arith, few _ _ _ c.find_nodes-k.ensures.0, length-take-le {A = ℕ})
 
 pub compact-requires : goal.compact-requires
 compact-requires c =
     (omega arith, omega arith, rise _ _ _ _ _ c.find_nodes-k.ensures)
 
 pub returns : goal.returns
-returns c =
-    few _ _ _ c.find_nodes-k.ensures.0
+returns c = few _ _ _ c.find_nodes-k.ensures.0

@@ -7,6 +7,3 @@ use Rattle.rng.proofs.shuffle.Given as goal
 
 abbrev pub invariant-loop-i : goal.invariant-loop-i
 invariant-loop-i l = (shuffle l.rng l.initial.s ≡ shuffle_from (l.i - 1) l.x l.s) × (length l.s ≡ length l.initial.s) × (l.i ≤ length l.initial.s)
-
-abbrev pub decreases-loop-i : goal.decreases-loop-i
-decreases-loop-i l = l.i

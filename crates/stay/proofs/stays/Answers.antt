@@ -31,9 +31,6 @@ loop-i-init c =
       rw c.insert_both.ensures
           (sound_first a.s a.xs.now a.ys.now a.times.now a.marks.now p.ys_length p.times_length p.marks_length
           a.found (omega arith) (length a.work.now / 4) a.work.now a.events.now (omega arith) (omega arith)),
-      omega arith,
-      refl,
-      refl,
     )
 
 pub next-o-requires : goal.next-o-requires
@@ -75,9 +72,6 @@ loop-i-preserved c =
       subst (Sound a.found (l.i + 1)) (sym e)
           (sound_step euclidean a.s tm a.times.now (record { x = get_or a.xs.now l.i nan; y = get_or a.ys.now l.i nan })
           a.found l.i st l.invariant.1),
-      omega arith,
-      omega (arith, c.next-o.auto.work),
-      omega (arith, c.next-o.auto.events),
     )
 
 pub close-last-requires : goal.close-last-requires
@@ -109,7 +103,7 @@ overflow_sub-result c =
     c.close-last.new.events c.close-last.result (last_state a.s a.xs.now a.ys.now a.times.now a.marks.now p.ys_length p.times_length p.marks_length a.found
     some_fix (length a.work.now / 4) a.work.now a.events.now some_room fits c.all_marked-timed.result
     c.insert_both.new.work l.work _ l.events _ l.o c.close-last.result l.i
-    c.all_marked-timed.ensures c.insert_both.ensures c.loop-i-test.false l.invariant.2 l.invariant.0
+    c.all_marked-timed.ensures c.insert_both.ensures c.loop-i-test.false (omega arith) l.invariant.0
     c.close-last.ensures)
 
 pub returns : goal.returns
@@ -123,9 +117,9 @@ returns c =
     whole a.s a.xs.now a.ys.now a.times.now a.marks.now p.ys_length p.times_length p.marks_length a.found
     some_fix (length a.work.now / 4) a.work.now a.events.now some_room fits c.close-last.new.work
     c.close-last.new.events c.close-last.result refl
-    (omega (arith, c.close-last.auto.work, c.loop-i.invariant.3, c.insert_both.auto.work))
+    (omega (arith, c.close-last.auto.work, c.loop-i.auto.work, c.insert_both.auto.work))
     (omega (arith, c.close-last.auto.events, p.events_length)) (last_state a.s a.xs.now a.ys.now a.times.now a.marks.now p.ys_length p.times_length p.marks_length a.found
     some_fix (length a.work.now / 4) a.work.now a.events.now some_room fits c.all_marked-timed.result
     c.insert_both.new.work l.work _ l.events _ l.o c.close-last.result l.i
-    c.all_marked-timed.ensures c.insert_both.ensures c.loop-i-test.false l.invariant.2 l.invariant.0
+    c.all_marked-timed.ensures c.insert_both.ensures c.loop-i-test.false (omega arith) l.invariant.0
     c.close-last.ensures)

@@ -1,7 +1,6 @@
 -- `stay::stays` meets its contract: the loop goes on with the run of `proofs/Run.antt`, whose end `proofs/Whole.antt` reads.
 use mathlib.Core.Path.{◌≡◌}
-use Prim.Native.Nat.{◌-◌, ◌≤◌}
-use lib.ListN.{length}
+use Prim.Native.Nat.{◌-◌}
 use Rattle.distance.specs.Distance.{euclidean}
 use Rattle.trace.specs.Trace.{fixes}
 use Rattle.stay.specs.Steps.{state_of}
@@ -13,7 +12,4 @@ abbrev pub invariant-loop-i : goal.invariant-loop-i
 invariant-loop-i l =
     (run euclidean l.s l.timed l.times (fixes l.xs l.ys l.times l.marks) l.i (l.n - l.i) (state_of l.q l.i l.work l.events l.o) ≡ run euclidean l.s l.timed l.times
     (fixes l.xs l.ys l.times l.marks) 1 (l.n - 1) (state_of l.q 1 l.initial.work l.initial.events l.initial.o))
-    × Sound l.found l.i (state_of l.q l.i l.work l.events l.o) × (l.i ≤ l.n) × (length l.work ≡ length l.initial.work) × (length l.events ≡ length l.initial.events)
-
-abbrev pub decreases-loop-i : goal.decreases-loop-i
-decreases-loop-i l = l.n - l.i
+    × Sound l.found l.i (state_of l.q l.i l.work l.events l.o)

@@ -1,7 +1,6 @@
 -- `checks::one_trace::check_fixes` meets its contract. The invariant: the fixes from i on have the first refusal of all.
 use mathlib.Core.Path.{◌≡◌}
-use Prim.Native.Nat.{◌-◌}
-use lib.ListN.{length, drop}
+use lib.ListN.{drop}
 use Rattle.trace.specs.Trace.{fixes}
 use Rattle.settings.specs.Checks.{each_of}
 use Rattle.checks.specs.Traces.{check_fix}
@@ -9,6 +8,3 @@ use Rattle.checks.proofs.one_trace.check_fixes.Given as goal
 
 abbrev pub invariant-loop-i : goal.invariant-loop-i
 invariant-loop-i l = each_of (check_fix l.k) (drop l.i (fixes l.xs l.ys l.times l.marks)) ≡ each_of (check_fix l.k) (fixes l.xs l.ys l.times l.marks)
-
-abbrev pub decreases-loop-i : goal.decreases-loop-i
-decreases-loop-i l = length l.xs - l.i

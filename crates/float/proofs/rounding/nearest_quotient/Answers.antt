@@ -21,18 +21,6 @@ down m k h l = sym (nearest_down m (1 * 2 ^ k % 2 ^ 64) (some k h) l) ∙ ap (ne
 up : (m k : ℕ) → k < 64 → 1 * 2 ^ k % 2 ^ 64 ≤ 2 * (m % (1 * 2 ^ k % 2 ^ 64)) → m / (1 * 2 ^ k % 2 ^ 64) + 1 ≡ nearest_whole m (2 ^ k)
 up m k h l = sym (nearest_up m (1 * 2 ^ k % 2 ^ 64) (some k h) l) ∙ ap (nearest_whole m) (divisor k h)
 
-pub nonzero_div-q : goal.nonzero_div-q
-nonzero_div-q c = some c.args.k c.requires.k_bound
-
-pub nonzero_rem-twice_rest : goal.nonzero_rem-twice_rest
-nonzero_rem-twice_rest c = some c.args.k c.requires.k_bound
-
-pub overflow_mul-twice_rest : goal.overflow_mul-twice_rest
-overflow_mul-twice_rest c = let l = mod-le c.args.m (1 * 2 ^ c.args.k % 2 ^ 64) in omega arith
-
-pub overflow_add-result : goal.overflow_add-result
-overflow_add-result c = let l = div-le_self c.args.m (1 * 2 ^ c.args.k % 2 ^ 64) in omega arith
-
 pub returns-then-twice_rest-d : goal.returns-then-twice_rest-d
 returns-then-twice_rest-d c = down c.args.m c.args.k c.requires.k_bound c.if-twice_rest-d.true
 

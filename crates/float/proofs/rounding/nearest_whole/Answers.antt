@@ -25,8 +25,8 @@ all b m e r u h q = (
     place : (b e : ℕ) → e ≡ b / 2 ^ 52 - 1 → b < 0x4330_0000_0000_0000 → e ≤ 1074
     place b e f h = omega arith
 
-pub returns-then-b-lt4602678819172646912 : goal.returns-then-b-lt4602678819172646912
-returns-then-b-lt4602678819172646912 c = (zero-le, tiny c.args.b c.if-b-lt4602678819172646912.true)
+pub returns-then-b-lt-HALF : goal.returns-then-b-lt-HALF
+returns-then-b-lt-HALF c = (zero-le, tiny c.args.b c.if-b-lt-HALF.true)
 
 pub returns : goal.returns
 returns c =

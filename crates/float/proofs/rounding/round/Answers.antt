@@ -5,20 +5,17 @@ use lib.Dec.{T, le→leb}
 use lib.Ieee.{binary64, neg, to_bits, of_bits, in_float}
 use Rattle.float.specs.Round.{round_ties_away}
 use Rattle.float.specs.Examples.{round_nan}
-use Rattle.float.proofs.Special.{at_nan, no_nan, of_bits_lem, in_range}
+use Rattle.float.proofs.Special.{at_nan, not_nan, of_bits_lem, in_range}
 use Rattle.float.proofs.RoundLaws.{rounded_neg}
 use Rattle.float.proofs.RoundBits.{negative, stays}
 use Rattle.float.proofs.rounding.round.Goals as goal
 
-pub returns-then-x : goal.returns-then-x
-returns-then-x c = at_nan round_ties_away round_nan c.args.x (subst T (sym c.if-x.true) tt)
+pub returns-then-is_nan : goal.returns-then-is_nan
+returns-then-is_nan c = at_nan round_ties_away round_nan c.args.x (sym c.is_nan.ensures.value ∙ c.if-is_nan.true)
 
-pub float_to_bits-b : goal.float_to_bits-b
-float_to_bits-b c = no_nan c.args.x c.if-x.false
-
-pub returns-then-size-ge4841369599423283200 : goal.returns-then-size-ge4841369599423283200
-returns-then-size-ge4841369599423283200 c =
-    stays c.args.x (subst T (sym c.well_formed.0.1) tt) c.if-size-ge4841369599423283200.true (in_range c.args.x (subst T (sym c.well_formed.0.1) tt) (no_nan c.args.x c.if-x.false))
+pub returns-then-size-ge-WHOLE : goal.returns-then-size-ge-WHOLE
+returns-then-size-ge-WHOLE c =
+    stays c.args.x (subst T (sym c.well_formed.0.1) tt) c.if-size-ge-WHOLE.true (in_range c.args.x (subst T (sym c.well_formed.0.1) tt) (not_nan c.args.x (sym c.is_nan.ensures.value ∙ c.if-is_nan.false)))
 
 pub int_to_float-n : goal.int_to_float-n
 unfolding in_float

@@ -3,6 +3,7 @@ use mathlib.Core.Path.{sym, ap, subst}
 use Rattle.infostop.specs.Fit.{Outcome}
 use Rattle.infostop.specs.Ends.{Ended, told, labels_after}
 use Rattle.infostop.specs.Models.{model_after}
+use Rattle.infostop.specs.Steps.{fit_from}
 use Rattle.infostop.proofs.Stays.{floats_room, words_room, few_places, all_lengths, space, found_there, no_stay, some_stay}
 use Rattle.infostop.proofs.steps.from_tracks.Goals as goal
 
@@ -28,8 +29,8 @@ pub returns-then-k-eq0 : goal.returns-then-k-eq0
 returns-then-k-eq0 c =
     let a = c.args in
     let f = c.all_stays-k.ensures in
-    let o = no_stay a.model.config a.places _ _ _ _ _ f c.if-k-eq0.true in
-    record { answer = ap told (sym o); model = ap (model_after a.model) (sym o); fixes = ap (labels_after a.labels.now) (sym o) }
+    let o = no_stay a.model.now.config a.places _ _ _ _ _ f c.if-k-eq0.true in
+    record { answer = ap told (sym o); model = ap (model_after a.model.now) (sym o); fixes = ap (labels_after a.labels.now) (sym o) }
 
 pub from_medians-requires : goal.from_medians-requires
 from_medians-requires c =
@@ -47,9 +48,9 @@ returns c =
     let a = c.args in
     let f = c.all_stays-k.ensures in
     subst
-    (λ (o : Outcome). Ended a.model a.labels.now o c.from_medians.result
+    (λ (o : Outcome). Ended a.model.now a.labels.now o (fit_from a.model.now c.from_medians.result)
     c.from_medians.new.labels)
-    (some_stay a.model.config a.places _ _ _ _ _ f c.if-k-eq0.false)
+    (some_stay a.model.now.config a.places _ _ _ _ _ f c.if-k-eq0.false)
     (c.from_medians.ensures _
     (found_there a.xs.now a.ys.now a.times.now a.marks.now a.lens.now a.floats.now a.words.now a.labels.now
     a.places c.requires _ _ c.all_stays-k.new.work

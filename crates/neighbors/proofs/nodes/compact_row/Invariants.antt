@@ -1,16 +1,10 @@
 -- `neighbors::nodes::compact_row` meets its contract.
-use mathlib.Core.Path.{◌≡◌}
 use mathlib.Core.List.{List}
-use Prim.Native.Nat.{◌+◌, ◌*◌, ◌-◌, ◌≤◌}
+use Prim.Native.Nat.{◌+◌, ◌*◌}
 use lib.ListN.{length}
 use lib.Ieee.{Float}
 use Rattle.neighbors.specs.StepsTables.{Compacted}
 use Rattle.neighbors.proofs.nodes.compact_row.Given as goal
 
 abbrev pub invariant-loop-v : goal.invariant-loop-v
-invariant-loop-v l =
-    ((t : List Float) → Compacted l.n l.nodes t l.initial.table (l.u * length l.nodes) → Compacted l.n l.nodes t l.table (l.u * length l.nodes + l.v)) ×
-    (length l.table ≡ length l.initial.table) × (l.v ≤ length l.nodes)
-
-abbrev pub decreases-loop-v : goal.decreases-loop-v
-decreases-loop-v l = length l.nodes - l.v
+invariant-loop-v l = (t : List Float) → Compacted l.n l.nodes t l.initial.table (l.u * length l.nodes) → Compacted l.n l.nodes t l.table (l.u * length l.nodes + l.v)

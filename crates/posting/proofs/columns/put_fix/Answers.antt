@@ -4,23 +4,11 @@ use mathlib.Core.Path.{sym, ap, ◌∙◌}
 use Rattle.print.specs.Steps.{pushes}
 use Rattle.print.proofs.Pushes.{and_then}
 use Rattle.posting.specs.Sheet.{heading}
-use Rattle.posting.proofs.LinesFrom.{first_of_page, within_page}
+use Rattle.posting.proofs.LinesFrom.{first_of_page}
 use Rattle.posting.proofs.columns.put_fix.Goals as goal
-
-pub put_line-requires : goal.put_line-requires
-put_line-requires c =
-    rw (to_z-of_z c.ranges.l) c.requires
 
 pub returns-then-i-eq0 : goal.returns-then-i-eq0
 unfolding heading
 returns-then-i-eq0 c =
     and_then _ _ _ _ _ c.push_all-k.ensures (rw (to_z-of_z c.ranges.l) at c.put_line.ensures)
     ∙ ap (pushes _) (sym (first_of_page _ _ c.if-i-eq0.true))
-
-pub put_line-requires-2 : goal.put_line-requires-2
-put_line-requires-2 c =
-    rw (to_z-of_z c.ranges.l) c.requires
-
-pub returns : goal.returns
-returns c =
-    (rw (to_z-of_z c.ranges.l) at c.put_line-2.ensures) ∙ ap (pushes _) (sym (within_page _ _ c.if-i-eq0.false))

@@ -1,5 +1,5 @@
 -- `posting::lines::put_lines` meets its contract.
-use mathlib.Core.Path.{◌≡◌, refl, ap, ◌∙◌}
+use mathlib.Core.Path.{◌≡◌, ap, ◌∙◌}
 use Prim.Native.Nat.{ℕ, ◌+◌, ◌-◌}
 use native.Mathlib.Nat.{add-sub_cancel_left}
 use native.Mathlib.Omega.{arith}
@@ -8,22 +8,6 @@ use lib.Seq.{length-take-le}
 use Rattle.posting.proofs.LinesFrom.{sheet_on, sheet_end, trace_fits, traces_left}
 use Rattle.posting.proofs.Within.{first_within, rest_within}
 use Rattle.posting.proofs.lines.put_lines.Goals as goal
-
-pub loop-t-init : goal.loop-t-init
-loop-t-init c =
-    (refl, omega (arith, c.requires.sum), refl)
-
-pub overflow_add-end : goal.overflow_add-end
-overflow_add-end c =
-    omega (arith, trace_fits _ _ _ _ c.loop-t-test.true c.loop-t.invariant.1)
-
-pub offset_bounds-labels-i : goal.offset_bounds-labels-i
-offset_bounds-labels-i c =
-    omega (arith, trace_fits _ _ _ _ c.loop-t-test.true c.loop-t.invariant.1)
-
-pub slice_bounds-put_trace-end : goal.slice_bounds-put_trace-end
-slice_bounds-put_trace-end c =
-    omega (arith, trace_fits _ _ _ _ c.loop-t-test.true c.loop-t.invariant.1)
 
 pub put_trace-k-requires : goal.put_trace-k-requires
 put_trace-k-requires c =

@@ -1,6 +1,5 @@
 -- `posting::lines::put_trace` meets its contract.
-use mathlib.Core.Path.{◌≡◌, refl, ◌∙◌}
-use Prim.Native.Nat.{◌+◌}
+use mathlib.Core.Path.{◌∙◌}
 use native.Mathlib.Omega.{arith}
 use lib.ListN.{get_or}
 use lib.IntN.{pos}
@@ -11,12 +10,6 @@ use borrow.Author.Rules.{rules}
 use Rattle.posting.proofs.LinesFrom.{trace_on, trace_end}
 use Rattle.posting.proofs.Within.{label_at}
 use Rattle.posting.proofs.lines.put_trace.Goals as goal
-
-pub loop-f-init : goal.loop-f-init
-loop-f-init c =
-    let i = c.args.i in
-    let e : i + 0 ≡ i = omega arith in
-    (rw e refl, refl)
 
 pub put_fix-k-requires : goal.put_fix-k-requires
 put_fix-k-requires c =

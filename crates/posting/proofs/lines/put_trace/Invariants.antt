@@ -1,7 +1,7 @@
 -- `posting::lines::put_trace` meets its contract.
 use mathlib.Core.Path.{◌≡◌}
 use mathlib.Core.List.{flatten}
-use Prim.Native.Nat.{◌+◌, ◌-◌}
+use Prim.Native.Nat.{◌+◌}
 use lib.ListN.{length, drop}
 use Rattle.print.specs.Steps.{out as Written·out, pushes}
 use Rattle.posting.specs.Sheet.{trace_entries}
@@ -12,6 +12,3 @@ abbrev pub invariant-loop-f : goal.invariant-loop-f
 invariant-loop-f l =
     (pushes (Written·out l.out l.k) (flatten (lines_from (l.i + l.f) (trace_entries l.t l.f (drop l.f l.labels)))) ≡ pushes (Written·out l.initial.out l.initial.k) (flatten (lines_from l.i (trace_entries l.t 0 l.labels))))
     × (length l.out ≡ length l.initial.out)
-
-abbrev pub decreases-loop-f : goal.decreases-loop-f
-decreases-loop-f l = length l.labels - l.f

@@ -1,5 +1,4 @@
 -- `print::lines::put_trace` meets its contract.
-use mathlib.Core.Path.{refl, ◌∙◌}
 use lib.ListN.{get_or}
 use lib.IntN.{pos}
 use mir.Facts.{to_z-of_z}
@@ -9,17 +8,10 @@ use borrow.Author.Rules.{rules}
 use Rattle.print.proofs.LabelLines.{trace_on, trace_end}
 use Rattle.print.proofs.lines.put_trace.Goals as goal
 
-pub loop-f-init : goal.loop-f-init
-loop-f-init c = (refl, refl)
-
 pub loop-f-preserved : goal.loop-f-preserved
 loop-f-preserved c =
-    let fits : SFits w32 (get_or c.args.labels.now c.loop-f.f (pos 0)) = search rules in (
-      trace_on _ _ _ _ _ c.loop-f-test.true
-          (rw (to_z-of_z {w = w32} fits) at c.put_line-k.ensures)
-          c.loop-f.invariant.0,
-      c.put_line-k.auto.out ∙ c.loop-f.invariant.1,
-    )
+    let fits : SFits w32 (get_or c.args.labels.now c.loop-f.f (pos 0)) = search rules in
+    trace_on _ _ _ _ _ c.loop-f-test.true (rw (to_z-of_z {w = w32} fits) at c.put_line-k.ensures) c.loop-f.invariant
 
 pub returns : goal.returns
-returns c = trace_end _ _ _ _ c.loop-f-test.false c.loop-f.invariant.0
+returns c = trace_end _ _ _ _ c.loop-f-test.false c.loop-f.invariant

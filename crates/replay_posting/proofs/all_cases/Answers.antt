@@ -1,9 +1,0 @@
--- `replay_posting::all_cases` is safe and ends: each turn leaves one case fewer.
-use native.Mathlib.Omega.{arith}
-use Rattle.replay_posting.proofs.all_cases.Goals as goal
-
-pub loop-left-init : goal.loop-left-init
-loop-left-init c = omega arith
-
-pub loop-left-preserved : goal.loop-left-preserved
-loop-left-preserved c = omega arith
