@@ -5,6 +5,7 @@ ghost use Rattle.infostop.specs.Models.{fresh_model, from_config};
 use settings::config::Config;
 use settings::refusal::Refusal;
 
+// Kept as it is: arrays of 512 with a count beside them, by value, are the rules' form of the model.
 #[derive(Clone, Copy, Debug, PartialEq)]
 pub struct Infostop {
     pub config: Config,

@@ -7,7 +7,7 @@ ghost use Rattle.print.specs.Written.{Writes};
 use settings::refusal::Refusal;
 
 pub mod bytes;
-pub mod lines;
+mod lines;
 
 // The labels of the fixes of all traces; `lens` are the lengths of the traces. Hands back how many bytes are written.
 pub fn print_labels(lens: &[u32], labels: &[i32], out: &mut [u8]) -> usize

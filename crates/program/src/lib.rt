@@ -1,6 +1,6 @@
 // What the programs `stops` and `sheet` share: standard input, read to its end whatever its length, is answered with the labels in the program's form or
 // with the refusal. A failed read is refused with 22, and a failed write is said on standard error.
-// Kept as it is: arrays of fixed size, of which a part is lent, since the project's memory is fixed and it takes no heap.
+// Kept as it is: arrays of fixed size, since the project's memory is fixed and it takes no heap.
 #![tactic(auto)]
 
 ghost use Rattle.std.specs.Prelude.{◌≡◌, length};

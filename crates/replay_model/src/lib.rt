@@ -1,5 +1,5 @@
 // For the programs that tell whether a fit left a model as it was: a model that a fit has altered before, and the comparison.
-// Kept as it is: arrays of fixed size, of which a part is lent, since the project's memory is fixed and it takes no heap.
+// Kept as it is: arrays of fixed size, since the project's memory is fixed and it takes no heap.
 #![tactic(auto)]
 
 ghost use Rattle.std.specs.Prelude.{◌≡◌};

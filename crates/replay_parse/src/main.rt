@@ -2,7 +2,7 @@
 // -0.0 or 7. Prints the number and trace of the refusal, or `0 0`; 1 where all slices are as they were, by bits, else 0; of a text that is taken the
 // number of fixes and of traces, and x, y, time and mark of its last fix and the length of its last trace. The answers are written by hand from
 // docs/RULES.md.
-// Kept as it is: arrays of fixed size, of which a part is lent, since the project's memory is fixed and it takes no heap.
+// Kept as it is: arrays of fixed size, since the project's memory is fixed and it takes no heap.
 #![tactic(auto)]
 
 use replay::Numbers;

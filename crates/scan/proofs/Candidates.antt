@@ -18,7 +18,6 @@ use Rattle.float.specs.Binary64.{zero64}
 use Rattle.map_state.specs.Network.{Network, row}
 use Rattle.map_state.specs.MapState.{MapState, stats_of, delta_move, delta_from}
 use Rattle.scan.specs.Scan.{insert_group, candidates, consider, scan_from, scan, highest_from, Answer, no_move}
-use Rattle.std.specs.Prelude.{Option, Some, None}
 use Rattle.scan.specs.Steps.{Next}
 use Rattle.map_state.specs.declared.ModuleStats.{ModuleStats}
 
@@ -140,24 +139,23 @@ module _ (n : Network) (s : MapState) (u : ℕ) (part : List ℕ) (ws : List Flo
   unfolding scan_up_from scan
   scan_start p q = rw (up_same 0 (candidates part ws) (rising part ws), p, q)
 
-  pub scan_on : (a a' : Answer) (f v : ℕ) {r : Option ℕ} {z : Answer} → scan_up_from n s u part ws a f ≡ z → Next part ws f (length part) r → r ≡ Some v → a' ≡ consider n s u a (get_or part v 0) → scan_up_from n s u part ws a' (get_or part v 0 + 1) ≡ z
+  pub scan_on : (a a' : Answer) (f v : ℕ) → Next part ws f (length part) v → v < length part → a' ≡ consider n s u a (get_or part v 0) → scan_up_from n s u part ws a' (get_or part v 0 + 1) ≡ scan_up_from n s u part ws a f
   unfolding scan_up_from scan_from
-  scan_on a a' f v g x i e =
-      let o = x.found v i in
-      (rw (
-        up_next f 0 (get_or part v 0) (candidates part ws) (rising part ws) (candidates_have part ws v o.0 o.1) o.2
-            (each (λ y. f ≤ y → get_or part v 0 ≤ y) part ws (λ w p t q. let l = x.least w p t q in let j : l.0 ≡ v = cc in (rw j at l.2))),
+  scan_on a a' f v x h e =
+      rw (
+        up_next f 0 (get_or part v 0) (candidates part ws) (rising part ws) (candidates_have part ws v h (x.near h)) (x.up h)
+            (each (λ y. f ≤ y → get_or part v 0 ≤ y) part ws (λ w p t q. (x.least w p t q).1)),
         e,
         add-one (get_or part v 0),
-      )) ∙ g
+      )
 
-  pub scan_end : (a : Answer) (f : ℕ) {r : Option ℕ} {z : Answer} → scan_up_from n s u part ws a f ≡ z → Next part ws f (length part) r → r ≡ None → a ≡ z
+  pub scan_end : (a : Answer) (f v : ℕ) → Next part ws f (length part) v → length part ≤ v → a ≡ scan_up_from n s u part ws a f
   unfolding scan_up_from scan_from
-  scan_end a f g x i = rw (up_none f (candidates part ws) (each (λ y. y < f) part ws (λ w p t. below (ltb (get_or part w 0) f) w p t refl))) at g
+  scan_end a f v x h = rw (up_none f (candidates part ws) (each (λ y. y < f) part ws (λ w p t. below (ltb (get_or part w 0) f) w p t refl)))
     where
       below : (b : Bool) (w : ℕ) → w < length part → lt zero64 (get_or ws w nan) ≡ true → ltb (get_or part w 0) f ≡ b → get_or part w 0 < f
       below true w p t q = ltb-true (get_or part w 0) f q
-      below false w p t q = let l = x.least w p t (ltb-false (get_or part w 0) f q) in let j = l.1 in cc
+      below false w p t q = let o = x.least w p t (ltb-false (get_or part w 0) f q) in absurd (omega arith)
 
 -- ---- the highest number
 highest_folded : (m : ℕ) (part : List ℕ) → fold max m part ≡ highest_from m part

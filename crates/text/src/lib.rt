@@ -28,6 +28,7 @@ pub struct Input {
 }
 
 // What is held between the pieces of a text: the state, and the fields of the settings (0 to 6) and of the last fix line (7 to 10).
+// Kept as it is: an array of eleven fields, of which each has its place; the project takes no heap.
 #[derive(Clone, Copy, Debug, PartialEq, Eq)]
 pub struct Reader {
     pub state: State,

@@ -74,6 +74,8 @@ impl State {
 impl Reader {
     // One byte of a line of values.
     #[tactic(auto, unfolding(crate::specs::Machine::row_byte, crate::specs::Machine::row_fields, crate::specs::Machine::after))]
+    // Nearly all bytes of a text pass here, and the compiler leaves it a call by itself.
+    #[inline(always)]
     fn row_byte(&mut self, last: usize, b: u8)
         requires { last < 11 }
         ensures state { self.new.state ≡ row_byte last self.old.state b }
