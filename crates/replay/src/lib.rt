@@ -1,7 +1,7 @@
 // For the programs that replay recorded answers: lists of cases read, as unsigned decimal numbers and texts, and answers printed.
 #![tactic(auto)]
 
-ghost use Rattle.std.specs.Prelude.{◌≡◌, ◌+◌, not, ◌≤◌, length, take, drop, IfSome};
+ghost use Rattle.std.specs.Prelude.{◌≡◌, ◌+◌, not, ◌≤◌, ◌<◌, length, take, drop, IfSome, IsNone};
 ghost use Rattle.std.specs.List.{take_while, fold, list_all};
 ghost use Rattle.std.specs.Char.{is_ascii_digit};
 ghost use Rattle.std.specs.Float.{binary64};
@@ -71,7 +71,8 @@ fn rest(text: &[u8], at: usize) -> &[u8]
 
 // The n bytes behind the byte at `at`.
 fn text_at(list: &[u8], at: usize, n: usize) -> Option<&[u8]>
-    ensures { IfSome result (λ s. (s.now ≡ take n (drop (at + 1) list.now)) × (at + 1 + n ≤ length list.now) × (length s.now ≡ n)) }
+    ensures some { IfSome result (λ s. (s.now ≡ take n (drop (at + 1) list.now)) × (at + 1 + n ≤ length list.now) × (length s.now ≡ n)) }
+    ensures none { IsNone result → length list.now < at + 1 + n }
 {
     list.get(at..)?.get(1..)?.get(..n)
 }
@@ -111,6 +112,7 @@ impl<'a> Numbers<'a> {
         ensures text { self.new.text ≡ self.old.text }
         ensures value { IfSome result (λ s. s.now ≡ text_at self.old.text.now self.old.at) }
         ensures place { IfSome result (λ s. self.new.at ≡ after self.old.text.now self.old.at + 1 + length s.now) }
+        ensures none { IsNone result → length self.old.text.now < after self.old.text.now self.old.at + 1 + value_at self.old.text.now self.old.at }
     {
         let n = self.next_size();
         let text = text_at(self.text, self.at, n)?;
