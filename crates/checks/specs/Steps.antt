@@ -1,15 +1,11 @@
 -- Serves the contracts of this crate's own functions; no public contract reaches it.
 -- What functions compute from the columns of times and marks of one trace. Lemmas join it to the trace's fixes.
-use Rattle.std.specs.Prelude.{ℕ, Bool, true, false, not, ◌&&◌, List, [], ◌∷◌, ◌≡◌, eqb, length, Float}
+use Rattle.std.specs.Prelude.{ℕ, Bool, true, false, not, ◌&&◌, List, [], ◌∷◌, eqb, length, Float}
 use Rattle.std.proofs.Math.Option.{Option}
-use Rattle.trace.specs.Trace.{time_of, fixes, traces}
-use Rattle.settings.specs.Checks.{Checked, in_turn, each_from}
-use Rattle.checks.specs.Traces.{above, check_times, check_size}
+use Rattle.trace.specs.Trace.{time_of}
+use Rattle.settings.specs.Checks.{Checked, in_turn}
+use Rattle.checks.specs.Traces.{above}
 use Rattle.checks.specs.Tracks.{check_lengths, check_counts, check_work, check_contents}
-
--- The columns of fixes have one length.
-abbrev pub EqualLengths : List Float → List Float → List Float → List ℕ → Type 0
-EqualLengths xs ys ts ms = (length ys ≡ length xs) × (length ts ≡ length xs) × (length ms ≡ length xs)
 
 -- No mark is 1.
 unfoldable pub none_marked : List ℕ → Bool
@@ -36,16 +32,3 @@ check_columns xs ys ts ms lens labels counted places floats words =
     ∷ check_work (length xs) places floats words
     ∷ check_contents xs ys ts ms lens
     ∷ [])
-
--- r answers 14 and 15 for the trace k with these times and marks, wherever its fixes are.
-abbrev pub TimesChecked : ℕ → List Float → List ℕ → Checked → Type 0
-TimesChecked k times marks r = (xs ys : List Float) → length xs ≡ length times → length ys ≡ length times → r ≡ check_times k (fixes xs ys times marks)
-
--- r answers 16 for the trace k, whatever its times.
-abbrev pub SizeChecked : ℕ → List Float → List Float → Checked → Type 0
-SizeChecked k xs ys r = (ts : List Float) (ms : List ℕ) → length ts ≡ length xs → length ms ≡ length xs → r ≡ check_size k (fixes xs ys ts ms)
-
--- The same for all traces.
-abbrev pub SizesChecked : List Float → List Float → List ℕ → Checked → Type 0
-SizesChecked xs ys lens r =
-    (ts : List Float) (ms : List ℕ) → length ts ≡ length xs → length ms ≡ length xs → r ≡ each_from check_size 0 (traces lens (fixes xs ys ts ms))

@@ -1,14 +1,16 @@
 // The checks of one trace, of number k: 11 to 16.
 ghost use Rattle.std.specs.Prelude.{◌≡◌, not, ◌&&◌, ◌<◌, length, get_or};
 ghost use Rattle.std.specs.Float.{nan};
-ghost use Rattle.trace.specs.Trace.{fixes, read_time};
+ghost use Rattle.trace.specs.Trace.{read_time};
+ghost use Rattle.trace.specs.Given.{fixes_of};
 ghost use Rattle.trace.specs.Steps.{all_marked};
 ghost use Rattle.settings.specs.Checks.{each_of};
-ghost use Rattle.checks.specs.Traces.{check_fix, check_trace};
-ghost use Rattle.checks.specs.Steps.{EqualLengths, TimesChecked, SizeChecked, none_marked, columns_in_order};
+ghost use Rattle.checks.specs.Traces.{check_fix, check_trace, check_times, check_size};
+ghost use Rattle.checks.specs.Steps.{none_marked, columns_in_order};
 
 use distance::Point;
 use settings::refusal::Refusal;
+use trace::Trace;
 
 // The time of fix i, whose mark is given. Where that is not 1 the value is never read, and 0.0 stands for it.
 #[tactic(auto, unfolding(trace::specs::Trace::read_time))]
@@ -21,14 +23,21 @@ fn time_at(times: &[f64], i: usize, mark: u8) -> f64
 
 // 12 and 13, fix by fix.
 #[tactic(auto, using(crate::proofs::Columns::fix_next, crate::proofs::Columns::fix_end, trace::proofs::Fixes::as_read), unfolding(settings::proofs::Turns::turns))]
-fn check_fixes(k: usize, xs: &[f64], ys: &[f64], times: &[f64], marks: &[u8]) -> Result<(), Refusal>
-    requires { EqualLengths xs.now ys.now times.now marks.now }
-    ensures { result ≡ each_of (check_fix k) (fixes xs.now ys.now times.now marks.now) }
+fn check_fixes(k: usize, t: Trace) -> Result<(), Refusal>
+    ensures { result ≡ each_of (check_fix k) (fixes_of t.entry) }
 {
-    for i in 0..xs.len() {
-        let mark = marks[i];
-        let time = time_at(times, i, mark);
-        crate::fix::check_fix(k, Point { x: xs[i], y: ys[i] }, mark, time)?;
+    for i in 0..t.xs.len() {
+        let mark = t.marks[i];
+        let time = time_at(t.times, i, mark);
+        crate::fix::check_fix(
+            k,
+            Point {
+                x: t.xs[i],
+                y: t.ys[i],
+            },
+            mark,
+            time,
+        )?;
     }
     Ok(())
 }
@@ -62,14 +71,13 @@ fn in_time_order(times: &[f64], marks: &[u8]) -> bool
 
 // 14 and 15.
 #[tactic(auto, using(crate::proofs::Columns::partly_columns, crate::proofs::Columns::order_columns), unfolding(crate::specs::Traces::check_times, settings::proofs::Turns::turns))]
-fn check_times(k: usize, times: &[f64], marks: &[u8]) -> Result<(), Refusal>
-    requires { length marks.now ≡ length times.now }
-    ensures { TimesChecked k times.now marks.now result }
+fn check_times(k: usize, t: Trace) -> Result<(), Refusal>
+    ensures { result ≡ check_times k (fixes_of t.entry) }
 {
-    if partly_marked(marks) {
+    if partly_marked(t.marks) {
         return Err(Refusal::PartlyTimed(k));
     }
-    if !in_time_order(times, marks) {
+    if !in_time_order(t.times, t.marks) {
         return Err(Refusal::TimeOrder(k));
     }
     Ok(())
@@ -77,33 +85,29 @@ fn check_times(k: usize, times: &[f64], marks: &[u8]) -> Result<(), Refusal>
 
 // 11 to 15.
 #[tactic(auto, using(trace::proofs::Fixes::fixes_length), unfolding(crate::specs::Traces::check_trace, settings::proofs::Turns::turns))]
-pub fn check_trace(
-    k: usize,
-    xs: &[f64],
-    ys: &[f64],
-    times: &[f64],
-    marks: &[u8],
-) -> Result<(), Refusal>
-    requires { EqualLengths xs.now ys.now times.now marks.now }
-    ensures { result ≡ check_trace k (fixes xs.now ys.now times.now marks.now) }
+pub fn check_trace(k: usize, t: Trace) -> Result<(), Refusal>
+    ensures { result ≡ check_trace k (fixes_of t.entry) }
 {
-    if xs.is_empty() {
+    if t.xs.is_empty() {
         return Err(Refusal::EmptyTrace(k));
     }
-    check_fixes(k, xs, ys, times, marks)?;
-    check_times(k, times, marks)
+    check_fixes(k, t)?;
+    check_times(k, t)
 }
 
 // 16.
-#[tactic(auto, using(crate::proofs::Columns::fix_next, crate::proofs::Columns::fix_end), unfolding(crate::specs::Traces::check_size, crate::specs::Traces::check_fix_size, settings::proofs::Turns::turns))]
-pub fn check_size(k: usize, xs: &[f64], ys: &[f64]) -> Result<(), Refusal>
-    requires { length ys.now ≡ length xs.now }
-    ensures { SizeChecked k xs.now ys.now result }
+#[tactic(auto, using(crate::proofs::Columns::fix_next, crate::proofs::Columns::fix_end), unfolding(crate::specs::Traces::check_size, settings::proofs::Turns::turns))]
+pub fn check_size(k: usize, t: Trace) -> Result<(), Refusal>
+    ensures { result ≡ check_size k (fixes_of t.entry) }
 {
-    for i in 0..xs.len() {
-        if !distance::in_limit(Point { x: xs[i], y: ys[i] }) {
-            return Err(Refusal::CoordinateSize(k));
-        }
+    for i in 0..t.xs.len() {
+        crate::fix::check_fix_size(
+            k,
+            Point {
+                x: t.xs[i],
+                y: t.ys[i],
+            },
+        )?;
     }
     Ok(())
 }

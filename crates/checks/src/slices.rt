@@ -4,6 +4,7 @@ ghost use Rattle.trace.specs.Trace.{total};
 ghost use Rattle.checks.specs.Tracks.{same_lengths, check_lengths, check_counts, check_work, check_mark};
 ghost use Rattle.settings.specs.Checks.{each_of};
 
+use crate::Room;
 use settings::refusal::Refusal;
 
 // Whether the trace lengths sum to n. What is left of n does not wrap.
@@ -64,11 +65,12 @@ pub fn check_counts(traces: usize, fixes: usize, places: usize) -> Result<(), Re
 
 // 10: the work slices are long enough.
 #[tactic(auto, unfolding(crate::specs::Tracks::check_work, settings::proofs::Turns::turns))]
-pub fn check_work(fixes: usize, places: usize, floats: usize, words: usize) -> Result<(), Refusal>
-    requires { (fixes ≤ 65536) × (places ≤ 512) }
-    ensures { result ≡ check_work fixes places floats words }
+pub fn check_work(fixes: usize, room: Room) -> Result<(), Refusal>
+    requires { (fixes ≤ 65536) × (room.places ≤ 512) }
+    ensures { result ≡ check_work fixes room.places room.floats room.words }
 {
-    if floats < 4 * fixes + places * places || words < 4 * fixes + 8 * places {
+    let places = room.places;
+    if room.floats < 4 * fixes + places * places || room.words < 4 * fixes + 8 * places {
         return Err(Refusal::Work);
     }
     Ok(())

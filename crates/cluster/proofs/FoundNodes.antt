@@ -1,5 +1,5 @@
 -- The nodes that the search in the table of weights finds.
-use mathlib.Core.Path.{◌≡◌, sym, ap, ◌∙◌, subst}
+use mathlib.Core.Path.{◌≡◌, sym, ap, ◌∙◌}
 use mathlib.Core.List.{List}
 use Prim.Native.Nat.{ℕ, ◌*◌, ◌≤◌}
 use native.Mathlib.Omega.{arith}
@@ -8,36 +8,31 @@ use lib.Seq.{length-take-le}
 use lib.Ieee.{Float}
 use Rattle.lists.specs.Lists.{overlay}
 use Rattle.lists.proofs.Overlay.{take_front}
-use Rattle.neighbors.specs.Places.{Place, places_in}
+use Rattle.neighbors.specs.Places.{Place}
 use Rattle.distance.specs.Distance.{Metric}
 use Rattle.neighbors.specs.Links.{weight, nodes}
 use Rattle.neighbors.specs.StepsTables.{Tabled, rows_with_weight, RowNumbers}
-use Rattle.neighbors.proofs.Sighted.{length_places_in}
 use Rattle.neighbors.proofs.NodeList.{nodes_few, nodes_rise, rows_nodes}
-use Rattle.cluster.specs.StepsSlices.{PlaceTable}
+use Rattle.cluster.specs.StepsSlices.{Countable}
 
-module _ (xs ys : List Float) (cs : List ℕ) (t : List Float) (p : PlaceTable xs ys cs t) where
-  abbrev ps : List Place
-  ps = places_in xs ys cs
+-- s is the filled table of n places; in l the k rows with a weight stand in front of what l₀ holds.
+module _ (ps : List Place) (t : List Float) (p : Countable ps t) (n : ℕ) (e : n ≡ length ps) (dist : Metric) (r2 : Float) (s : List Float)
+    (w : Tabled (weight dist r2 ps) (length ps) s (length ps * length ps)) (k : ℕ) (l₀ l : List ℕ) (f : (k ≡ length (rows_with_weight n s)) × (l ≡ overlay (rows_with_weight n s) l₀)) where
+  rows_are : rows_with_weight n s ≡ nodes dist r2 ps
+  rows_are = rw e (rows_nodes dist r2 ps s w p.counted (let a = p.stays in omega arith))
 
-  pub places_long : length ps ≡ length xs
-  places_long = length_places_in xs ys cs p.square.ordinates p.square.counts
+  pub found_nodes : take k l ≡ nodes dist r2 ps
+  found_nodes = take_front (rows_with_weight n s) l₀ l k f.0 f.1 ∙ rows_are
 
-  -- s is the filled table; in l the k rows with a weight stand in front of what l₀ holds.
-  module _ (dist : Metric) (r2 : Float) (s : List Float) (w : Tabled (weight dist r2 ps) (length xs) s (length xs * length xs)) (k : ℕ) (l₀ l : List ℕ)
-      (f : (k ≡ length (rows_with_weight (length xs) s)) × (l ≡ overlay (rows_with_weight (length xs) s) l₀)) where
-    rows_are : rows_with_weight (length xs) s ≡ nodes dist r2 ps
-    rows_are = subst (λ (n : ℕ). rows_with_weight n s ≡ nodes dist r2 ps) places_long
-        (rows_nodes dist r2 ps s (subst (λ (n : ℕ). Tabled (weight dist r2 ps) n s (n * n)) (sym places_long) w) p.counted (let a = p.stays in omega arith))
+  pub found_few : k ≤ n
+  found_few = let a = nodes_few dist r2 ps in let b = ap length rows_are in omega (arith, f.0, e)
 
-    pub found_nodes : take k l ≡ nodes dist r2 ps
-    found_nodes = take_front (rows_with_weight (length xs) s) l₀ l k f.0 f.1 ∙ rows_are
+  pub found_rise : RowNumbers n (take k l)
+  found_rise = rw (found_nodes, e) (nodes_rise dist r2 ps)
 
-    pub found_few : k ≤ length xs
-    found_few = let a = nodes_few dist r2 ps in let b = ap length rows_are in let d = places_long in omega (arith, f.0)
+  -- They stand in an array of 512.
+  pub found_room : length l ≡ 512 → k ≤ length l
+  found_room h = omega (arith, found_few, e, p.square.few)
 
-    pub found_rise : RowNumbers (length xs) (take k l)
-    found_rise = rw found_nodes (subst (λ (n : ℕ). RowNumbers n (nodes dist r2 ps)) places_long (nodes_rise dist r2 ps))
-
-    pub found_long : (g : List ℕ) → length g ≡ length xs → length l ≡ length xs → length (take k g) ≡ length (take k l)
-    found_long g a b = let d = found_few in length-take-le k g (omega arith) ∙ sym (length-take-le k l (omega arith))
+  pub found_length : length l ≡ 512 → k ≡ length (take k l)
+  found_length h = sym (length-take-le k l (found_room h))

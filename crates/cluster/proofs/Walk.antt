@@ -10,9 +10,32 @@ use lib.Dec.{eqb, ltb}
 use lib.IntN.{ℤ, pos, negsuc}
 use lib.ListN.{length, get_or, set, take}
 use lib.Seq.{take_all, take-suc-set}
+use Rattle.std.specs.Prelude.{Option, Some, None}
+use Rattle.std.specs.Option.{is_some}
 use Rattle.lists.specs.Lists.{from, upto, position, select}
 use Rattle.cluster.specs.Cluster.{label_count, place_label, labels_from}
+use Rattle.cluster.specs.StepsLabels.{group_at, label_by}
+use Rattle.cluster.proofs.LabelCount.{label_le}
 use Rattle.cluster.proofs.Before.{before, before_on, before_not, node_test, position_is, member_is}
+
+-- ---- the group of a place
+
+pub group_le : (ns gs : List ℕ) (u i g : ℕ) → group_at ns gs u i ≡ Some g → g ≤ label_count gs
+unfolding group_at
+group_le ns gs u i g = go (ltb u (length ns) && eqb (get_or ns u 0) i)
+  where
+    go : (b : Bool) → cond b (Some (get_or gs u 0)) None ≡ Some g → g ≤ label_count gs
+    go true e = let q : get_or gs u 0 ≡ g = cc in omega (arith, label_le gs u)
+    go false e = absurd (cc)
+
+label_grouped : (b : Bool) (g : ℕ) (single : Bool) (l : ℕ) → label_by (cond b (Some g) None) single l ≡ cond b (pos g) (cond single (pos l) (negsuc 0))
+unfolding label_by
+label_grouped true g single l = refl
+label_grouped false g single l = refl
+
+grouped : (b : Bool) (g : ℕ) → is_some (cond b (Some g) None) ≡ b
+grouped true g = refl
+grouped false g = refl
 
 -- ---- the walk
 
@@ -25,13 +48,13 @@ module _ (single : Bool) (nodes groups : List ℕ) where
   unfolding Walked
   walk_start labels n = ap (labels_from single nodes groups 0 0) (sub-zero n)
 
-  pub walk_on : (labels : List ℤ) (n u i : ℕ) {node : Bool} {g m u' : ℕ} {l : ℤ} → Walked labels n u i → i < n → i < length labels
-      → node ≡ (ltb u (length nodes) && eqb (get_or nodes u 0) i) → g ≡ get_or groups u 0 → m ≡ label_count groups
-      → l ≡ cond node (pos g) (cond single (pos (m + (i - u))) (negsuc 0)) → u' ≡ cond node (u + 1) u → Walked (set labels i l) n u' (i + 1)
-  unfolding Walked labels_from
-  walk_on labels n u i {node} {g} {m} {u'} {l} w h k e a b p q =
-      let o : n - i ≡ suc (n - suc i) = omega arith in
-      rw (add-one i, take-suc-set labels i l k, append_assoc, q, p, a, b, e) (rw o at w)
+  pub walk_on : (labels : List ℤ) (n u i : ℕ) {o : Option ℕ} {m u' : ℕ} {l : ℤ} → Walked labels n u i → i < n → i < length labels
+      → o ≡ group_at nodes groups u i → m ≡ label_count groups → l ≡ label_by o single (m + (i - u)) → u' ≡ cond (is_some o) (u + 1) u → Walked (set labels i l) n u' (i + 1)
+  unfolding Walked labels_from group_at
+  walk_on labels n u i {o} {m} {u'} {l} w h k e b p q =
+      let r : n - i ≡ suc (n - suc i) = omega arith in
+      let node = ltb u (length nodes) && eqb (get_or nodes u 0) i in
+      rw (add-one i, take-suc-set labels i l k, append_assoc, q, p, b, e, label_grouped node (get_or groups u 0) single (label_count groups + (i - u)), grouped node (get_or groups u 0)) (rw r at w)
 
   pub walk_end : (labels : List ℤ) (n u i : ℕ) → Walked labels n u i → n ≤ i → length labels ≡ n → labels ≡ labels_from single nodes groups 0 0 n
   unfolding Walked labels_from

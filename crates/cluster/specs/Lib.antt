@@ -2,4 +2,5 @@ pub mod Cluster
 pub mod FixLabels
 pub mod StepsSlices
 pub mod Steps
+pub mod StepsLabels
 pub mod Examples

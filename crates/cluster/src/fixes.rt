@@ -16,6 +16,8 @@ fn label_at(labels: &[i32], i: usize) -> i32
 }
 
 // The label of the place of m, or -1 where it has none.
+// Kept as it is: for no place the label of number `px.len()`, and no match with -1 in it. Tried, and the proof didn't close: `label_for` reads the
+// label of that number too, and callers may hand over more labels than places, since the contract asks nothing of how many they are.
 #[tactic(auto, using(crate::proofs::FixLabels::label_at_place))]
 fn median_label(px: &[f64], py: &[f64], place_labels: &[i32], m: Point) -> i32
     requires { length py.now ≡ length px.now }

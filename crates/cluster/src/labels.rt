@@ -1,6 +1,7 @@
 // Labels of places: those of the nodes, and the singles' behind them.
-ghost use Rattle.std.specs.Prelude.{◌≡◌, ◌≤◌, ◌&&◌, cond, eqb, ltb, pos, negsuc, length, get_or};
+ghost use Rattle.std.specs.Prelude.{◌≡◌, ℕ, ◌≤◌, Some, length};
 ghost use Rattle.cluster.specs.Cluster.{label_count, labels_from, none_labelled};
+ghost use Rattle.cluster.specs.StepsLabels.{group_at, label_by};
 
 // How many labels the nodes have.
 #[tactic(auto, using(crate::proofs::LabelCount::label_count_fold))]
@@ -10,31 +11,28 @@ fn label_count(groups: &[u32]) -> usize
     groups.iter().fold(0, |m, &l| m.max(l as usize + 1))
 }
 
-// Whether place i is node u.
-fn is_node(nodes: &[u32], u: usize, i: usize) -> bool
-    ensures { result ≡ (ltb u (length nodes.now) && eqb (get_or nodes.now u 0) i) }
+// The group of place i where it is node u; 0 where `groups` ends before it.
+#[tactic(auto, unfolding(crate::specs::StepsLabels::group_at))]
+fn group_at(nodes: &[u32], groups: &[u32], u: usize, i: usize) -> Option<u32>
+    ensures { result ≡ group_at nodes.now groups.now u i }
 {
-    u < nodes.len() && nodes[u] as usize == i
-}
-
-// The label of node u, or 0 where there is none.
-fn group_of(groups: &[u32], u: usize) -> u32
-    ensures { result ≡ get_or groups.now u 0 }
-{
-    groups.get(u).copied().unwrap_or(0)
-}
-
-// A node's label is its group's; a single's is l, or -1.
-fn label_of(node: bool, single: bool, group: u32, l: usize) -> i32
-    requires { (group ≤ 1024) × (l ≤ 1024) }
-    ensures { result ≡ cond node (pos group) (cond single (pos l) (negsuc 0)) }
-{
-    if node {
-        group as i32
-    } else if single {
-        l as i32
+    if u < nodes.len() && nodes[u] as usize == i {
+        Some(groups.get(u).copied().unwrap_or(0))
     } else {
-        -1
+        None
+    }
+}
+
+// A place's label: that of its group; without one it is l for a single, or -1.
+#[tactic(auto, unfolding(crate::specs::StepsLabels::label_by))]
+fn label_by(group: Option<u32>, single: bool, l: usize) -> i32
+    requires { ((g : ℕ) → group ≡ Some g → g ≤ 1024) × (l ≤ 1024) }
+    ensures { result ≡ label_by group single l }
+{
+    match group {
+        Some(g) => g as i32,
+        None if single => l as i32,
+        None => -1,
     }
 }
 
@@ -47,9 +45,9 @@ pub fn label_places(nodes: &[u32], groups: &[u32], single: bool, labels: &mut [i
     let count = label_count(groups);
     let mut u = 0;
     for i in 0..labels.len() {
-        let node = is_node(nodes, u, i);
-        labels[i] = label_of(node, single, group_of(groups, u), count + (i - u));
-        if node {
+        let group = group_at(nodes, groups, u, i);
+        labels[i] = label_by(group, single, count + (i - u));
+        if group.is_some() {
             u += 1;
         }
     }

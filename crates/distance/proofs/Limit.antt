@@ -6,7 +6,7 @@ use mathlib.Core.Bool.{Bool, true, false, not, ◌&&◌, ◌||◌, false≢true}
 use borrow.Author.Tests.{ltb-true, ltb-false, lt-ltb, le-leb, lt-leb}
 use lib.Dec.{leb, eqb}
 use lib.IntN.{ℤ}
-use lib.Ieee.{Float, nan, inf, fin, up, down, lt, le, eq, neg, of_int, is_nan}
+use lib.Ieee.{Float, nan, inf, fin, up, down, lt, le, eq, binary64, neg, of_int, of_bits, is_nan}
 use lib.Ieee.Fits.{down_pos}
 use Rattle.float.specs.Binary64.{whole64}
 use Rattle.float.proofs.Order.{le_is}
@@ -43,15 +43,26 @@ not_false : (b : Bool) → not b ≡ false → b ≡ true
 not_false true h = refl
 not_false false h = absurd (false≢true (sym h))
 
-pub below_limit : (x : Float) → le (neg (whole64 limit)) x ≡ false → within limit x ≡ false
+below : (x : Float) → le (neg (whole64 limit)) x ≡ false → within limit x ≡ false
 unfolding within
-below_limit nan h = refl
-below_limit (inf s) h = refl
-below_limit (fin s m e) h = under s m e (not_false (lt (fin s m e) (neg (whole64 limit))) (sym (turned s m e) ∙ h))
+below nan h = refl
+below (inf s) h = refl
+below (fin s m e) h = under s m e (not_false (lt (fin s m e) (neg (whole64 limit))) (sym (turned s m e) ∙ h))
 
-pub up_to_limit : (x : Float) → le (neg (whole64 limit)) x ≡ true → le x (whole64 limit) ≡ within limit x
+up_to : (x : Float) → le (neg (whole64 limit)) x ≡ true → le x (whole64 limit) ≡ within limit x
 unfolding le lt eq within neg of_int
-up_to_limit nan h = refl
-up_to_limit (inf true) h = absurd (false≢true h)
-up_to_limit (inf false) h = refl
-up_to_limit (fin s m e) h = over s m e (not_true (lt (fin s m e) (neg (whole64 limit))) (sym (turned s m e) ∙ h))
+up_to nan h = refl
+up_to (inf true) h = absurd (false≢true h)
+up_to (inf false) h = refl
+up_to (fin s m e) h = over s m e (not_true (lt (fin s m e) (neg (whole64 limit))) (sym (turned s m e) ∙ h))
+
+-- The limit as the code writes it.
+literal : of_bits binary64 0x41cd_cd65_0000_0000 ≡ whole64 limit
+unfolding of_bits of_int
+literal = refl
+
+pub below_limit : (x : Float) → le (neg (of_bits binary64 0x41cd_cd65_0000_0000)) x ≡ false → false ≡ within limit x
+below_limit x = rw literal λ h. sym (below x h)
+
+pub up_to_limit : (x : Float) → le (neg (of_bits binary64 0x41cd_cd65_0000_0000)) x ≡ true → le x (of_bits binary64 0x41cd_cd65_0000_0000) ≡ within limit x
+up_to_limit x = rw literal λ h. up_to x h

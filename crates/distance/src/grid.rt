@@ -5,6 +5,7 @@ ghost use Rattle.distance.specs.Grid.{on_grid, point_on_grid};
 use crate::Point;
 
 // One coordinate.
+#[tactic(auto, unfolding(crate::specs::Grid::on_grid))]
 fn on_grid(c: f64, res: f64) -> f64
     ensures { result ≡ on_grid res c }
 {

@@ -18,6 +18,7 @@ pub struct Point {
 const LIMIT: f64 = 1000000000.0;
 
 // Whether c is finite and of size at most the limit.
+#[tactic(auto, using(crate::proofs::Limit::below_limit, crate::proofs::Limit::up_to_limit))]
 fn within_limit(c: f64) -> bool
     ensures { result ≡ within limit c }
 {

@@ -6,7 +6,7 @@ use native.Mathlib.Nat.{mul-le-mul, div-add-mod', mod-lt}
 use native.Mathlib.Omega.{arith}
 use lib.Dec.{ltb}
 use borrow.Author.Tests.{ltb-true, ltb-false}
-use Rattle.float.specs.Steps.{Rooted}
+use Rattle.float.specs.Steps.{Rooted, Squared}
 
 -- two halves of 27 digits
 pub parts : (a b c low : ℕ) → c ≡ a * b → low ≡ c % 67108864 * 268435456 + b * b
@@ -15,6 +15,10 @@ parts a b c low e f = omega arith
 
 pub halves : (r : ℕ) → r / 134217728 * 134217728 + r % 134217728 ≡ r
 halves r = omega arith
+
+pub squared : (r : ℕ) → let a = r / 134217728 in let b = r % 134217728 in let c = a * b in let low = c % 67108864 * 268435456 + b * b in
+    Squared r (a * a + c / 67108864 + low / 18014398509481984) (low % 18014398509481984)
+squared r = record { same = parts (r / 134217728) (r % 134217728) _ _ refl refl ∙ ap (λ (x : ℕ). x * x) (halves r); low = omega arith }
 
 -- a root of a number below 2 ^ 108 is short
 pub short : (m r d : ℕ) → m < 2 ^ 54 → r * r + d ≡ m * 2 ^ 54 → r < 2 ^ 54

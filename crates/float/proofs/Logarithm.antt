@@ -8,13 +8,13 @@ use lib.IntN.{ℤ, pos, negsuc, sub_ℕ, ◌+ℤ◌}
 use lib.Dec.{T, leb-suc-zero, ltb, leb, eqb, leb→le, nleb→lt, ltb→lt, nltb→le, lt→ltb, le→leb, lit≤}
 use lib.Arith.{le→nltb}
 use lib.Pow.{pow-add, pow_pos, pow_mono, shl_lt}
-use lib.Ieee.{Float, nan, inf, fin, binary64, up, down, minus, size, odd, fits, of_int, of_bits}
+use lib.Ieee.{Float, nan, inf, fin, binary64, up, down, minus, size, odd, fits, of_int, of_bits, div}
 use lib.Ieee.Digits.{size-lt, size_reaches}
 use lib.Ieee.Exact.{HasValue, odd_sign}
 use lib.Ieee.Fits.{and_i, and_l, and_r, down_pos}
 use lib.Ieee.Bits.{is_true, is_false, of_bits-fits}
 use Rattle.float.specs.Binary64.{sub64, whole64}
-use Rattle.float.specs.Ln.{ln_of, shift, ln}
+use Rattle.float.specs.Ln.{series, ln_of, shift, ln}
 use Rattle.float.specs.Steps.{Unpacked, Normal}
 use Rattle.float.proofs.RootDigits.{size_is}
 use Rattle.float.proofs.Unpacking.{of_normal}
@@ -247,6 +247,14 @@ module _ (n m x : ℕ) (e : ℤ) (f : T (fits binary64 (fin false (suc n) e))) (
 
 -- ---- the steps of the code together
 
+places_low : of_bits binary64 0x40a0_6000_0000_0000 ≡ whole64 2096
+unfolding of_bits of_int
+places_low = refl
+
+places_high : of_bits binary64 0x40a0_5e00_0000_0000 ≡ whole64 2095
+unfolding of_bits of_int
+places_high = refl
+
 -- What `unpack` and `normalize` make of the bits b.
 module _ (b m e m' x : ℕ) (u : Unpacked b m e) (l : Normal m e m' x) where
   Low : Float → Type 0
@@ -276,10 +284,16 @@ module _ (b m e m' x : ℕ) (u : Unpacked b m e) (l : Normal m e m' x) where
   value : Low (of_bits binary64 b) × High (of_bits binary64 b)
   value = both (of_bits binary64 b) (of_bits-fits binary64 b) (subst (λ (v : Float). HasValue v false (m * 2 ^ e) (2 ^ 1074)) (sym u.value) (odd_sign 53 false m e 1074))
 
-  pub ln_low : m' < 3 * 2 ^ 51 → ln (of_bits binary64 b) ≡ ln_of (sub64 (whole64 x) (whole64 2096)) (of_bits binary64 (m' + 1022 * 2 ^ 52))
+  -- with the literals of the code
+  pub ln_low : m' < 0x18_0000_0000_0000 → ln_of (sub64 (whole64 x) (of_bits binary64 0x40a0_6000_0000_0000)) (of_bits binary64 (m' + 0x3fe0_0000_0000_0000)) ≡ ln (of_bits binary64 b)
   unfolding Low
-  ln_low = value.0
+  ln_low h = ap (λ (z : Float). ln_of (sub64 (whole64 x) z) (of_bits binary64 (m' + 0x3fe0_0000_0000_0000))) places_low ∙ sym (value.0 h)
 
-  pub ln_high : 3 * 2 ^ 51 ≤ m' → ln (of_bits binary64 b) ≡ ln_of (sub64 (whole64 x) (whole64 2095)) (of_bits binary64 (m' + 1021 * 2 ^ 52))
+  pub ln_high : 0x18_0000_0000_0000 ≤ m' → ln_of (sub64 (whole64 x) (of_bits binary64 0x40a0_5e00_0000_0000)) (of_bits binary64 (m' + 0x3fd0_0000_0000_0000)) ≡ ln (of_bits binary64 b)
   unfolding High
-  ln_high = value.1
+  ln_high h = ap (λ (z : Float). ln_of (sub64 (whole64 x) z) (of_bits binary64 (m' + 0x3fd0_0000_0000_0000))) places_high ∙ sym (value.1 h)
+
+-- The definitions by which the reciprocals of the code are those of the series.
+unfoldable pub reciprocals : Unit {0}
+unfolding series of_bits of_int div
+reciprocals = tt

@@ -1,11 +1,12 @@
 -- The nearest whole number of a fraction: equal fractions have the same one (`nearest_same`), it is the quotient or one more by twice the remainder (`nearest_down`, `nearest_up`),
 -- 0 below a half (`nearest_zero`) and the number itself at a whole number (`nearest_own`); and how far it lies from the fraction (`nearest_under`, `nearest_over`);
--- it is at most every whole number that the fraction is (`nearest_at_most`).
+-- it is at most every whole number that the fraction is (`nearest_at_most`). `shifted_down` and `shifted_up`: the same as the code has it.
 use mathlib.Core.Path.{◌≡◌, sym, ap, ◌∙◌, subst}
-use Prim.Native.Nat.{ℕ, zero, suc, ◌+◌, ◌-◌, ◌*◌, ◌/◌, ◌%◌, ◌≤◌, ◌<◌}
-use native.Mathlib.Nat.{lt_irrefl, lt-suc_self, le_of_suc-le-suc, mod-lt, div-add-mod', div-mul-le_self, div-lt_iff_lt-mul, div-eq_of_lt}
+use Prim.Native.Nat.{ℕ, zero, suc, ◌+◌, ◌-◌, ◌*◌, ◌/◌, ◌%◌, ◌^◌, ◌≤◌, ◌<◌}
+use native.Mathlib.Nat.{lt_irrefl, lt-suc_self, le_of_suc-le-suc, mod-lt, div-add-mod', div-mul-le_self, div-lt_iff_lt-mul, div-eq_of_lt, one-mul}
 use native.Mathlib.Omega.{arith}
 use lib.Arith.{digits_div}
+use lib.Pow.{pow_pos, shl_exact}
 use lib.Ieee.Nearest.{div_same}
 -- Named so that the examples are checked before these lemmas.
 use Rattle.float.specs.Examples
@@ -94,3 +95,20 @@ nearest_most a c p = below ((2 * a + c) / (2 * c)) ((div-lt_iff_lt-mul (twice_po
 
     below : (n : ℕ) → n < a + 2 → n ≤ a + 1
     below n h = omega arith
+
+-- ---- the divisor 2 ^ k as the code has it
+
+divisor : (k : ℕ) → k < 64 → 1 * 2 ^ k % 2 ^ 64 ≡ 2 ^ k
+divisor k h = shl_exact 1 k 64 (omega arith) (omega arith) ∙ one-mul (2 ^ k)
+
+some : (k : ℕ) → k < 64 → 0 < 1 * 2 ^ k % 2 ^ 64
+some k h = subst (λ (d : ℕ). 0 < d) (sym (divisor k h)) (pow_pos k)
+
+pub shifted_some : (k : ℕ) → k < 64 → (1 * 2 ^ k % 2 ^ 64 ≡ 0) → ⊥
+shifted_some k h e = lt_irrefl 0 (subst (λ (d : ℕ). 0 < d) e (some k h))
+
+pub shifted_down : (m k : ℕ) → k < 64 → 2 * (m % (1 * 2 ^ k % 2 ^ 64)) < 1 * 2 ^ k % 2 ^ 64 → m / (1 * 2 ^ k % 2 ^ 64) ≡ nearest_whole m (2 ^ k)
+shifted_down m k h l = sym (nearest_down m (1 * 2 ^ k % 2 ^ 64) (some k h) l) ∙ ap (nearest_whole m) (divisor k h)
+
+pub shifted_up : (m k : ℕ) → k < 64 → 1 * 2 ^ k % 2 ^ 64 ≤ 2 * (m % (1 * 2 ^ k % 2 ^ 64)) → m / (1 * 2 ^ k % 2 ^ 64) + 1 ≡ nearest_whole m (2 ^ k)
+shifted_up m k h l = sym (nearest_up m (1 * 2 ^ k % 2 ^ 64) (some k h) l) ∙ ap (nearest_whole m) (divisor k h)

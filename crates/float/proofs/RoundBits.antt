@@ -3,23 +3,24 @@
 use mathlib.Core.Path.{◌≡◌, refl, sym, ap, ◌∙◌, subst}
 use mathlib.Core.Logic.{◌⊎◌, inl, inr}
 use Prim.Native.Nat.{ℕ, zero, suc, ◌+◌, ◌-◌, ◌*◌, ◌/◌, ◌%◌, ◌^◌, ◌≤◌, ◌<◌}
-use native.Mathlib.Nat.{eq-or-lt_of_le, eq-zero-or-pos, lt_of_lt_of_le, mul_assoc, mul-one, mul_right_comm, eq_of_mul-eq-mul_right, pow-succ'}
+use native.Mathlib.Nat.{eq-or-lt_of_le, eq-zero-or-pos, lt_of_lt_of_le, le_trans, mul_assoc, mul-one, mul_right_comm, eq_of_mul-eq-mul_right, pow-succ'}
 use native.Mathlib.Omega.{arith}
 use native.Mathlib.Decide.{dec_lt}
 use mathlib.Core.Bool.{Bool, true, false, cond}
 use lib.Dec.{T, leb, eqb, le→leb}
 use lib.Arith.{lt→nleb}
 use lib.Pow.{pow-add, pow_pos, pow_mono, shl_lt}
-use lib.Ieee.{Float, nan, inf, fin, binary64, up, down, odd, round, neg, fits, to_bits, of_fields, of_bits, of_int}
+use lib.Ieee.{Float, nan, inf, fin, binary64, up, down, odd, round, neg, fits, is_nan, to_bits, of_fields, of_bits, of_int}
 use lib.Ieee.Bits.{is_true, is_false, of_bits-fits, of_bits-to_bits}
 use lib.Ieee.Exact.{HasValue, odd_sign}
 use Rattle.float.specs.Binary64.{whole64}
 use Rattle.float.specs.Round.{nearest_whole, round_ties_away}
 use Rattle.float.specs.Steps.{Unpacked}
-use Rattle.float.proofs.Special.{of_bits_lem}
+use Rattle.float.proofs.Special.{of_bits_lem, at_nan, not_nan, in_range}
+use Rattle.float.specs.Examples.{round_nan}
 use Rattle.float.proofs.Exact.{whole_round}
 use Rattle.float.proofs.Unpacking.{of_subnormal, of_normal}
-use Rattle.float.proofs.NearestWhole.{nearest_same, nearest_zero}
+use Rattle.float.proofs.NearestWhole.{nearest_same, nearest_zero, nearest_most}
 use Rattle.float.proofs.RoundLaws.{odd_not, rounded_neg, rounded_value, rounded_own}
 
 -- ---- the sign
@@ -155,3 +156,35 @@ stays x f l h = go (dec_lt (to_bits binary64 x) (2 ^ 63))
     go (no k) =
         let e : x ≡ neg y = negative x f (signed (to_bits binary64 x) k) in
         e ∙ ap neg (large (to_bits binary64 x % 2 ^ 63) l h) ∙ sym (rounded_neg y) ∙ ap round_ties_away (sym e)
+
+-- ---- the same in the words of the code
+
+pub quotient_small : (b m e : ℕ) → Unpacked b m e → nearest_whole m (2 ^ (1074 - e)) ≤ 2 ^ 53
+quotient_small b m e u = le_trans (nearest_most m (2 ^ (1074 - e)) (pow_pos (1074 - e))) (next m u.short)
+  where
+    next : (m : ℕ) → m < 2 ^ 53 → m + 1 ≤ 2 ^ 53
+    next m h = omega arith
+
+pub quotient_rounds : (b m e : ℕ) → Unpacked b m e → b < 0x4330_0000_0000_0000 → whole64 (nearest_whole m (2 ^ (1074 - e))) ≡ round_ties_away (of_bits binary64 b)
+quotient_rounds b m e u h = between b m e u (place b e u.field h)
+  where
+    place : (b e : ℕ) → e ≡ b / 2 ^ 52 - 1 → b < 0x4330_0000_0000_0000 → e ≤ 1074
+    place b e f h = omega arith
+
+pub nan_rounds : (x : Float) → is_nan x ≡ true → x ≡ round_ties_away x
+nan_rounds x h = at_nan round_ties_away round_nan x h
+
+-- f says that the format holds x
+module _ (x : Float) (f : fits binary64 x ≡ true) where
+  held : T (fits binary64 x)
+  held = subst T (sym f) tt
+
+  pub whole_stays : is_nan x ≡ false → 0x4330_0000_0000_0000 ≤ to_bits binary64 x % 0x8000_0000_0000_0000 → x ≡ round_ties_away x
+  whole_stays k l = stays x held l (in_range x held (not_nan x k))
+
+  module _ (v : Float) (h : v ≡ round_ties_away (of_bits binary64 (to_bits binary64 x % 0x8000_0000_0000_0000))) where
+    pub positive_rounds : to_bits binary64 x ≡ to_bits binary64 x % 0x8000_0000_0000_0000 → v ≡ round_ties_away x
+    positive_rounds e = h ∙ ap round_ties_away (of_bits_lem x _ held e)
+
+    pub negative_rounds : (to_bits binary64 x ≡ to_bits binary64 x % 0x8000_0000_0000_0000 → ⊥) → neg v ≡ round_ties_away x
+    negative_rounds e = ap neg h ∙ sym (rounded_neg (of_bits binary64 (to_bits binary64 x % 0x8000_0000_0000_0000))) ∙ ap round_ties_away (sym (negative x held e))

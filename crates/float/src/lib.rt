@@ -1,11 +1,12 @@
-// Of an f64: the correctly rounded square root, the rules' stand-in for the natural logarithm, plogp, the finite test and, in `rounding`, the nearest whole number.
+// Of an f64: the correctly rounded square root, the rules' stand-in for the natural logarithm, plogp, the tests for a finite number and for the same bits
+// and, in `rounding`, the nearest whole number.
 #![tactic(auto)]
 
 ghost use Rattle.std.specs.Prelude.{◌≡◌, ◌+◌, ◌-◌, ◌*◌, ◌/◌, ◌^◌, ◌≤◌, ◌<◌, false};
 ghost use Rattle.std.specs.Float.{binary64};
 ghost use Rattle.std.specs.Float.Ieee.{of_bits};
 ghost use Rattle.std.specs.List.{fold};
-ghost use Rattle.float.specs.Binary64.{add64, mul64, one64, whole64, div64, finite};
+ghost use Rattle.float.specs.Binary64.{add64, mul64, one64, whole64, div64, finite, same_bits};
 ghost use Rattle.float.specs.Root.{root};
 ghost use Rattle.float.specs.Ln.{series, ln_of, ln, plogp};
 ghost use Rattle.float.specs.Steps.{Unpacked, Normal, Even, Rooted, Squared};
@@ -34,74 +35,66 @@ struct Scaled {
     e: u64,
 }
 
-// The value whose bits are b, finite and above zero, is m * 2^e smallest values (2^-1074 each).
-#[tactic(auto, using(crate::proofs::Unpacking::of_subnormal, crate::proofs::Unpacking::of_normal))]
-fn unpack(b: u64) -> Scaled
-    requires b_nonzero { 0 < b }
-    requires b_bound { b < 0x7ff0_0000_0000_0000 }
-    ensures { Unpacked b result.m result.e }
-{
-    if b < EXPONENT_ONE {
-        Scaled { m: b, e: 0 }
-    } else {
+// The bits of a value that is finite and above zero.
+#[derive(Clone, Copy, Debug, PartialEq, Eq)]
+struct Positive {
+    bits: u64,
+    ghost some: { 0 < bits },
+    ghost finite: { bits < 0x7ff0_0000_0000_0000 },
+}
+
+impl Positive {
+    // The value is m * 2^e smallest values (2^-1074 each).
+    #[tactic(auto, using(crate::proofs::Unpacking::of_subnormal, crate::proofs::Unpacking::of_normal))]
+    fn unpack(self) -> Scaled
+        ensures { Unpacked self.bits result.m result.e }
+    {
+        let b = self.bits;
+        if b < EXPONENT_ONE {
+            Scaled { m: b, e: 0 }
+        } else {
+            Scaled {
+                m: b % EXPONENT_ONE + EXPONENT_ONE,
+                e: b / EXPONENT_ONE - 1,
+            }
+        }
+    }
+}
+
+impl Scaled {
+    // The number times 2^1074, with an m of 53 binary digits.
+    #[tactic(auto, using(crate::proofs::Unpacking::zeros_range))]
+    fn normalize(self) -> Scaled
+        requires m_nonzero { 0 < self.m }
+        requires m_bound { self.m < 2 ^ 53 }
+        requires e_bound { self.e < 2046 }
+        ensures { Normal self.m self.e result.m result.e }
+    {
+        let z = self.m.leading_zeros() as u64 - 11;
         Scaled {
-            m: b % EXPONENT_ONE + EXPONENT_ONE,
-            e: b / EXPONENT_ONE - 1,
+            m: self.m << z,
+            e: self.e + 1074 - z,
         }
     }
-}
 
-// m * 2^e times 2^1074, with an m of 53 binary digits.
-#[tactic(auto, using(crate::proofs::Unpacking::zeros_range))]
-fn normalize(m: u64, e: u64) -> Scaled
-    requires m_nonzero { 0 < m }
-    requires m_bound { m < 2 ^ 53 }
-    requires e_bound { e < 2046 }
-    ensures { Normal m e result.m result.e }
-{
-    let z = m.leading_zeros() as u64 - 11;
-    Scaled {
-        m: m << z,
-        e: e + 1074 - z,
-    }
-}
-
-// The same number with an even exponent.
-#[tactic(auto, using(crate::proofs::Unpacking::evened))]
-fn even_exponent(m: u64, e: u64) -> Scaled
-    requires bound { 2 ^ 52 ≤ m }
-    requires m_bound { m < 2 ^ 53 }
-    requires le_e { 1022 ≤ e }
-    requires e_bound { e < 3120 }
-    ensures { Even m e result.m result.e }
-{
-    if e % 2 == 1 {
-        Scaled { m: 2 * m, e: e - 1 }
-    } else {
-        Scaled { m, e }
-    }
-}
-
-// The whole part of the root of m * 2^54, a binary digit a turn. p is the place of the last digit found, and
-// root * root + rest * p stays m * 2^54.
-#[tactic(auto, using(crate::proofs::Restoring::done))]
-fn root_by_digits(m: u64) -> u64
-    requires { m < 2 ^ 54 }
-    ensures { Rooted m result }
-{
-    let mut root: u64 = 0;
-    let mut rest: u64 = m;
-    let mut p = SCALE;
-    while 1 < p {
-        p /= 2;
-        rest *= 2;
-        let t = root * 2 + p;
-        if t <= rest {
-            rest -= t;
-            root += p;
+    // The same number with an even exponent.
+    #[tactic(auto, using(crate::proofs::Unpacking::evened))]
+    fn even_exponent(self) -> Scaled
+        requires bound { 2 ^ 52 ≤ self.m }
+        requires m_bound { self.m < 2 ^ 53 }
+        requires le_e { 1022 ≤ self.e }
+        requires e_bound { self.e < 3120 }
+        ensures { Even self.m self.e result.m result.e }
+    {
+        if self.e % 2 == 1 {
+            Scaled {
+                m: 2 * self.m,
+                e: self.e - 1,
+            }
+        } else {
+            self
         }
     }
-    root
 }
 
 // hi * 2^54 + lo.
@@ -111,111 +104,136 @@ struct Wide {
     lo: u64,
 }
 
-// r * r, in two parts.
-fn square(r: u64) -> Wide
-    requires { r < 2 ^ 54 }
-    ensures { Squared r result.hi result.lo }
-{
-    let a = r / 0x800_0000;
-    let b = r % 0x800_0000;
-    let c = a * b;
-    let low = c % 0x400_0000 * 0x1000_0000 + b * b;
-    Wide {
-        hi: a * a + c / 0x400_0000 + low / SCALE,
-        lo: low % SCALE,
+// A number below 2^54: one of whose multiple by 2^54 the root is taken, or such a root.
+#[derive(Clone, Copy, Debug, PartialEq, Eq)]
+struct Small {
+    m: u64,
+    ghost bound: { m < 2 ^ 54 },
+}
+
+impl Small {
+    // Its square, in two parts.
+    #[tactic(auto, using(crate::proofs::Correction::squared))]
+    fn square(self) -> Wide
+        ensures { Squared self.m result.hi result.lo }
+    {
+        let a = self.m / 0x800_0000;
+        let b = self.m % 0x800_0000;
+        let c = a * b;
+        let low = c % 0x400_0000 * 0x1000_0000 + b * b;
+        Wide {
+            hi: a * a + c / 0x400_0000 + low / SCALE,
+            lo: low % SCALE,
+        }
+    }
+
+    // The whole part of the root of m * 2^54, a binary digit a turn. p is the place of the last digit found, and
+    // root * root + rest * p stays m * 2^54.
+    #[tactic(auto, using(crate::proofs::Restoring::done))]
+    fn root_by_digits(self) -> u64
+        ensures { Rooted self.m result }
+    {
+        let mut root: u64 = 0;
+        let mut rest = self.m;
+        let mut p = SCALE;
+        while 1 < p {
+            p /= 2;
+            rest *= 2;
+            let t = root * 2 + p;
+            if t <= rest {
+                rest -= t;
+                root += p;
+            }
+        }
+        root
+    }
+
+    // A number near the root of m * 2^54, as a rule a little below: two steps of Newton's method for 1 / sqrt. Nothing is promised of it but its size;
+    // it is checked in whole numbers.
+    fn estimate(self) -> Small {
+        let x = (self.m / 2) as f64 * 0.0000000000000004440892098500626;
+        let h = 0.5 * x;
+        let y0 = ((x * -0.019050381711095046 + 0.1946854613143936) * x - 0.7388624963523053) * x
+            + 1.556186731857809;
+        let y1 = y0 * (1.5 - h * y0 * y0);
+        let y2 = y1 * (1.5 - h * y1 * y1);
+        let s = x * y2;
+        let t = s + (x - s * s) * (0.5 * y2);
+        if t.is_nan() {
+            return Small { m: 0 };
+        }
+        Small {
+            m: (t.to_bits() % EXPONENT_ONE + EXPONENT_ONE) * 2 - 2,
+        }
+    }
+
+    // The whole part of the root of m * 2^54, one by one from a number at or below it; d is what is left of m * 2^54 above r * r.
+    #[tactic(auto, using(crate::proofs::Correction::short, crate::proofs::Correction::ends))]
+    fn count_up(self, from: u64, left: u64) -> u64
+        requires { from * from + left ≡ self.m * 2 ^ 54 }
+        ensures { Rooted self.m result }
+    {
+        let mut r = from;
+        let mut d = left;
+        while 2 * r < d {
+            d -= 2 * r + 1;
+            r += 1;
+        }
+        r
+    }
+
+    // The same with q steps at once where the root is near: what is left then is as a rule less than a step.
+    #[tactic(auto, using(crate::proofs::Correction::step_small, crate::proofs::Correction::step_left, crate::proofs::Correction::steps))]
+    fn correct(self, r: u64, d: u64) -> u64
+        requires { r * r + d ≡ self.m * 2 ^ 54 }
+        ensures { Rooted self.m result }
+    {
+        if 0x80_0000_0000_0000 <= r {
+            return self.count_up(r, d);
+        }
+        let c = 2 * r + 16;
+        let q = d / c;
+        if 16 < q {
+            return self.count_up(r, d);
+        }
+        self.count_up(r + q, d % c + q * (16 - q))
+    }
+
+    // The whole part of the root of m * 2^54: from an estimate where its square is at most that and near, else digit by digit.
+    fn whole_root(self) -> u64
+        ensures { Rooted self.m result }
+    {
+        let r = self.estimate();
+        let w = r.square();
+        if self.m < w.hi {
+            return self.root_by_digits();
+        }
+        let k = self.m - w.hi;
+        if 512 <= k {
+            return self.root_by_digits();
+        }
+        let all = k * SCALE;
+        if all < w.lo {
+            return self.root_by_digits();
+        }
+        self.correct(r.m, all - w.lo)
     }
 }
 
-// A number near the root of m * 2^54, as a rule a little below: two steps of Newton's method for 1 / sqrt. Nothing is promised of it but its size; it is checked
-// in whole numbers.
-fn estimate(m: u64) -> u64
-    requires { m < 2 ^ 54 }
-    ensures { result < 2 ^ 54 }
-{
-    let x = (m / 2) as f64 * 0.0000000000000004440892098500626;
-    let h = 0.5 * x;
-    let y0 = ((x * -0.019050381711095046 + 0.1946854613143936) * x - 0.7388624963523053) * x
-        + 1.556186731857809;
-    let y1 = y0 * (1.5 - h * y0 * y0);
-    let y2 = y1 * (1.5 - h * y1 * y1);
-    let s = x * y2;
-    let t = s + (x - s * s) * (0.5 * y2);
-    if t.is_nan() {
-        return 0;
+impl Positive {
+    // The root of the value.
+    #[tactic(auto, using(crate::proofs::Special::bits_number, crate::proofs::Result::all))]
+    fn sqrt(self) -> f64
+        ensures { result ≡ root binary64 (of_bits binary64 self.bits) }
+    {
+        let s = self.unpack().normalize().even_exponent();
+        let r = Small { m: s.m }.whole_root();
+        f64::from_bits((s.e / 2 - 26) * EXPONENT_ONE + (r + 1) / 2)
     }
-    (t.to_bits() % EXPONENT_ONE + EXPONENT_ONE) * 2 - 2
-}
-
-// The whole part of the root of m * 2^54, one by one from a number at or below it; d is what is left of m * 2^54 above r * r.
-#[tactic(auto, using(crate::proofs::Correction::short, crate::proofs::Correction::ends))]
-fn count_up(m: u64, from: u64, left: u64) -> u64
-    requires m_bound { m < 2 ^ 54 }
-    requires left_value { from * from + left ≡ m * 2 ^ 54 }
-    ensures { Rooted m result }
-{
-    let mut r = from;
-    let mut d = left;
-    while 2 * r < d {
-        d -= 2 * r + 1;
-        r += 1;
-    }
-    r
-}
-
-// The same with q steps at once where the root is near: what is left then is as a rule less than a step.
-#[tactic(auto, using(crate::proofs::Correction::step_small, crate::proofs::Correction::step_left, crate::proofs::Correction::steps))]
-fn correct(m: u64, r: u64, d: u64) -> u64
-    requires m_bound { m < 2 ^ 54 }
-    requires d_value { r * r + d ≡ m * 2 ^ 54 }
-    ensures { Rooted m result }
-{
-    if 0x80_0000_0000_0000 <= r {
-        return count_up(m, r, d);
-    }
-    let c = 2 * r + 16;
-    let q = d / c;
-    if 16 < q {
-        return count_up(m, r, d);
-    }
-    count_up(m, r + q, d % c + q * (16 - q))
-}
-
-// The whole part of the root of m * 2^54: from an estimate where its square is at most that and near, else digit by digit.
-fn whole_root(m: u64) -> u64
-    requires { m < 2 ^ 54 }
-    ensures { Rooted m result }
-{
-    let r = estimate(m);
-    let w = square(r);
-    if m < w.hi {
-        return root_by_digits(m);
-    }
-    let k = m - w.hi;
-    if 512 <= k {
-        return root_by_digits(m);
-    }
-    let all = k * SCALE;
-    if all < w.lo {
-        return root_by_digits(m);
-    }
-    correct(m, r, all - w.lo)
-}
-
-// The root of the value whose bits are b, finite and above zero.
-#[tactic(auto, using(crate::proofs::Special::bits_number, crate::proofs::Result::all))]
-fn sqrt_positive(b: u64) -> f64
-    requires b_nonzero { 0 < b }
-    requires b_bound { b < 0x7ff0_0000_0000_0000 }
-    ensures { result ≡ root binary64 (of_bits binary64 b) }
-{
-    let u = unpack(b);
-    let l = normalize(u.m, u.e);
-    let s = even_exponent(l.m, l.e);
-    let r = whole_root(s.m);
-    f64::from_bits((s.e / 2 - 26) * EXPONENT_ONE + (r + 1) / 2)
 }
 
 // The square root of x, rounded to nearest, of two as near the even one.
+#[tactic(auto, using(crate::proofs::Special::nan_root, crate::proofs::Special::zero_root, crate::proofs::Special::minus_zero_root, crate::proofs::Special::infinity_root, crate::proofs::Special::negative_root, crate::proofs::Special::below_infinity, crate::proofs::Special::own_bits))]
 pub fn sqrt(x: f64) -> f64
     ensures { result ≡ root binary64 x }
 {
@@ -229,7 +247,7 @@ pub fn sqrt(x: f64) -> f64
     if SIGN < b {
         return f64::NAN;
     }
-    sqrt_positive(b)
+    Positive { bits: b }.sqrt()
 }
 
 // From t = start on t * z + r for each r.
@@ -255,6 +273,7 @@ const RECIPROCALS: [f64; 11] = [
 ];
 
 // The series of ln from t = 1/23 down to j = 1.
+#[tactic(auto, unfolding(crate::proofs::Logarithm::reciprocals))]
 fn odd_series(z: f64) -> f64
     ensures { result ≡ series 11 z (div64 one64 (whole64 23)) }
 {
@@ -262,6 +281,7 @@ fn odd_series(z: f64) -> f64
 }
 
 // ln of 2^k * m.
+#[tactic(auto, unfolding(crate::specs::Ln::ln_of))]
 fn ln_of(k: f64, m: f64) -> f64
     ensures { result ≡ ln_of k m }
 {
@@ -270,23 +290,24 @@ fn ln_of(k: f64, m: f64) -> f64
     k * LN_2 + 2.0 * s * t
 }
 
-// ln of the value whose bits are b, finite and above zero: it is l.m / 2^52 times a power of two, with l.m of 53 binary digits.
-fn ln_positive(b: u64) -> f64
-    requires b_nonzero { 0 < b }
-    requires b_bound { b < 0x7ff0_0000_0000_0000 }
-    ensures { result ≡ ln (of_bits binary64 b) }
-{
-    let u = unpack(b);
-    let l = normalize(u.m, u.e);
-    let e = l.e as u32 as f64;
-    if l.m < 0x18_0000_0000_0000 {
-        ln_of(e - 2096.0, f64::from_bits(l.m + 0x3fe0_0000_0000_0000))
-    } else {
-        ln_of(e - 2095.0, f64::from_bits(l.m + 0x3fd0_0000_0000_0000))
+impl Positive {
+    // ln of the value: it is l.m / 2^52 times a power of two, with l.m of 53 binary digits.
+    #[tactic(auto, using(crate::proofs::Special::bits_number, crate::proofs::Logarithm::ln_low, crate::proofs::Logarithm::ln_high))]
+    fn ln(self) -> f64
+        ensures { result ≡ ln (of_bits binary64 self.bits) }
+    {
+        let l = self.unpack().normalize();
+        let e = l.e as u32 as f64;
+        if l.m < 0x18_0000_0000_0000 {
+            ln_of(e - 2096.0, f64::from_bits(l.m + 0x3fe0_0000_0000_0000))
+        } else {
+            ln_of(e - 2095.0, f64::from_bits(l.m + 0x3fd0_0000_0000_0000))
+        }
     }
 }
 
 // The stand-in for the natural logarithm of p.
+#[tactic(auto, using(crate::proofs::Special::nan_ln, crate::proofs::Special::zero_ln, crate::proofs::Special::infinity_ln, crate::proofs::Special::negative_ln, crate::proofs::Special::below_infinity, crate::proofs::Special::own_bits))]
 pub fn ln(p: f64) -> f64
     ensures { result ≡ ln p }
 {
@@ -303,7 +324,7 @@ pub fn ln(p: f64) -> f64
     if SIGN < b {
         return f64::NAN;
     }
-    ln_positive(b)
+    Positive { bits: b }.ln()
 }
 
 // p * ln(p), and 0 unless p > 0.
@@ -320,4 +341,16 @@ pub fn is_finite(x: f64) -> bool
     ensures { result ≡ finite x }
 {
     x.is_finite()
+}
+
+// Whether x and y have the same bits; all NaNs count as one.
+#[tactic(auto, using(crate::proofs::SameBits::nan_left, crate::proofs::SameBits::nan_right), unfolding(crate::specs::Binary64::same_bits))]
+pub fn same_bits(x: f64, y: f64) -> bool
+    ensures { result ≡ same_bits x y }
+{
+    if x.is_nan() {
+        y.is_nan()
+    } else {
+        !y.is_nan() && x.to_bits() == y.to_bits()
+    }
 }

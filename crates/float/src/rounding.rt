@@ -12,6 +12,7 @@ const HALF: u64 = 0x3fe0_0000_0000_0000;
 const WHOLE: u64 = 0x4330_0000_0000_0000;
 
 // The whole number nearest to m / 2^k, a half going up.
+#[tactic(auto, using(crate::proofs::NearestWhole::shifted_some, crate::proofs::NearestWhole::shifted_down, crate::proofs::NearestWhole::shifted_up))]
 fn nearest_quotient(m: u64, k: u64) -> u64
     requires m_bound { m < 2 ^ 53 }
     requires k_bound { k < 64 }
@@ -24,6 +25,7 @@ fn nearest_quotient(m: u64, k: u64) -> u64
 }
 
 // The same for the value whose bits are b, at or above zero and below 2^52.
+#[tactic(auto, using(crate::proofs::RoundBits::tiny, crate::proofs::RoundBits::quotient_small, crate::proofs::RoundBits::quotient_rounds))]
 fn nearest_whole(b: u64) -> u64
     requires { b < 0x4330_0000_0000_0000 }
     ensures { (result ≤ 2 ^ 53) × (whole64 result ≡ round_ties_away (of_bits binary64 b)) }
@@ -31,11 +33,12 @@ fn nearest_whole(b: u64) -> u64
     if b < HALF {
         return 0;
     }
-    let u = crate::unpack(b);
+    let u = crate::Positive { bits: b }.unpack();
     nearest_quotient(u.m, 1074 - u.e)
 }
 
 // The whole number nearest to x, of two as near the one further from zero. The sign stays, so that -0.3 gives -0.0; what is whole, infinite or NaN stays.
+#[tactic(auto, using(crate::proofs::RoundBits::nan_rounds, crate::proofs::RoundBits::whole_stays, crate::proofs::RoundBits::positive_rounds, crate::proofs::RoundBits::negative_rounds))]
 pub fn round(x: f64) -> f64
     ensures { result ≡ round_ties_away x }
 {

@@ -1,15 +1,10 @@
--- A trial kept or not, the trials one after the other, and the slices of the run.
-use mathlib.Core.Path.{◌≡◌, refl, sym, ap, ◌∙◌}
+-- A trial kept or not, and the trials one after the other.
+use mathlib.Core.Path.{◌≡◌, sym, ◌∙◌}
 use mathlib.Core.Bool.{true, false}
 use mathlib.Core.List.{List}
-use Prim.Native.Nat.{ℕ, zero, suc, ◌+◌, ◌-◌, ◌<◌, ◌≤◌}
-use native.Mathlib.Nat.{sub-zero}
+use Prim.Native.Nat.{ℕ, suc, ◌+◌, ◌-◌, ◌<◌, ◌≤◌}
 use native.Mathlib.Omega.{arith}
-use lib.ListN.{length, take, drop, get_or, replicate, length-replicate, get_or-replicate}
-use Rattle.std.proofs.lemmas.List.{take-replicate}
-use Rattle.map_state.specs.MapState.{lowest}
-use Rattle.map_state.specs.Steps.{Firsts}
-use lib.Seq.{length-take-le}
+use lib.ListN.{length}
 use lib.Ieee.{Float, lt}
 use Rattle.lists.specs.Lists.{upto}
 use Rattle.float.specs.Binary64.{zero64}
@@ -59,23 +54,3 @@ pub run_is : (n : Network) (seed : ℕ) (k : Grouping) {labels : List ℕ} → k
     → ◌≡◌ {A = Grouping} (record { partition = labels; mark = k.mark; rounds = k.rounds; codelength = k.codelength }) (run_infomap n seed)
 unfolding run_infomap
 run_is n seed k e p = rw (p, e)
-
--- ---- the slices
-pub part_of : {A : Type 0} (l : List A) (n : ℕ) → n ≤ length l → length (take (n - 0) (drop 0 l)) ≡ n
-part_of l n h = rw sub-zero (length-take-le n l h)
-
--- ---- the state before the first trial: all nodes in one group
-lowest_zero : (n : ℕ) → 0 < n → lowest 0 (replicate n 0) ≡ 0
-unfolding lowest
-lowest_zero zero h = absurd (omega arith)
-lowest_zero (suc n) h = refl
-
-pub one_group : (n k : ℕ) → n ≤ k → Firsts (take n (replicate k 0)) (replicate k 0)
-unfolding Firsts
-one_group n k h v p =
-    let t = take-replicate {X = ℕ} n k 0 h in
-    let l : length (take n (replicate {A = ℕ} k 0)) ≡ n = ap length t ∙ length-replicate n 0 in
-    let i : v < n = rw l at p in
-    let z : get_or (replicate {A = ℕ} k 0) v 0 ≡ 0 = get_or-replicate k v 0 0 (omega arith) in
-    let y : get_or (take n (replicate {A = ℕ} k 0)) v 0 ≡ 0 = rw t (get_or-replicate n v 0 0 i) in
-    rw (z, y, t) (sym (lowest_zero n (omega arith)))

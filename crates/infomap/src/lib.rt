@@ -1,5 +1,5 @@
 // Three trials on one generator, and the kept one with its groups numbered from 0. `best` holds the kept grouping.
-// Kept as it is: arrays of fixed size, of which a part is lent, since the project's memory is fixed and it takes no heap.
+// Kept as it is: arrays of fixed size, of which a part is lent, since the project takes no heap (docs/DECISIONS.md, "No heap").
 #![tactic(auto)]
 
 ghost use Rattle.std.specs.Prelude.{◌≡◌, ◌+◌, ◌-◌, ◌*◌, ◌<◌, ◌≤◌, length};
@@ -9,7 +9,7 @@ ghost use Rattle.optimize.specs.Steps.{run_of};
 ghost use Rattle.infomap.specs.Infomap.{mark_of, trial_mark, keep, best_of_three, kept_grouping, relabel_dense, run_infomap};
 ghost use Rattle.infomap.specs.Steps.{grouping_of};
 
-use map_state::{MapState, Network};
+use map_state::Network;
 use optimize::RunState;
 
 // The kept trial's last round moved nothing; it still did, as round 100; no trial was kept.
@@ -60,28 +60,15 @@ fn best_of_three(net: &Network, best: &mut [u32], rng: u64) -> Kept
 {
     let n = net.strength().len();
     let mut order = [0; 512];
-    let mut t = RunState {
-        state: MapState {
-            n,
-            partition: [0; 512],
-            first: [0; 512],
-            exits: [0.0; 512],
-            strengths: [0.0; 512],
-            q: 0.0,
-        },
-        rng,
-        rounds: 0,
-        moved: false,
-    };
     rng::fill(best);
     let mut k = Kept {
         mark: Mark::NoneKept,
         rounds: 0,
-        codelength: f64::from_bits(0x7FF0_0000_0000_0000),
+        codelength: f64::INFINITY,
     };
     let mut x = rng;
     for _ in 0..3u32 {
-        optimize::optimize_partition(net, &mut t, &mut order[..n], x);
+        let mut t = optimize::optimize_partition(net, &mut order[..n], x);
         x = t.rng;
         k = keep(net, &mut t, best, k);
     }

@@ -1,22 +1,21 @@
 -- From the places and their clustering to the end of the fit.
 use mathlib.Core.Path.{◌≡◌, refl, sym, ap, ap₂, ◌∙◌, subst}
 use mathlib.Core.Bool.{Bool, true, false}
-use mathlib.Core.List.{List}
+use mathlib.Core.List.{List, ◌++◌}
 use Rattle.std.specs.Prelude.{Result, Ok, Err}
 use Prim.Native.Nat.{ℕ, ◌*◌, ◌≤◌}
 use native.Mathlib.Omega.{arith}
-use borrow.Author.Tests.{le-ltb}
+use borrow.Author.Tests.{le-ltb, lt-ltb}
 use lib.Dec.{ltb}
 use lib.IntN.{ℤ, negsuc}
 use lib.ListN.{length, take, drop}
 use lib.Ieee.{Float}
 use Rattle.lists.specs.Lists.{overlay}
-use Rattle.float.specs.Binary64.{zero64}
 use Rattle.distance.specs.declared.Point.{Point}
 use Rattle.distance.specs.Distance.{euclidean, points}
 use Rattle.trace.specs.Trace.{Fix}
-use Rattle.neighbors.specs.Places.{Place, places, places_in, place_xs, place_ys}
-use Rattle.neighbors.specs.StepsPlaces.{places_within, place_counts}
+use Rattle.neighbors.specs.Places.{Place, places}
+use Rattle.neighbors.specs.StepsPlaces.{front}
 use Rattle.cluster.specs.Cluster.{Clustering, cluster, none_labelled}
 use Rattle.infomap.specs.Infomap.{RunMark}
 use Rattle.settings.specs.declared.config.Config.{Config}
@@ -30,12 +29,13 @@ use Rattle.cluster.proofs.FixLabels.{found_labels}
 use Rattle.infostop.specs.Fit.{Fitted, Outcome, refused, fitted, unless_none, given_by, from_places}
 use Rattle.infostop.specs.declared.model.Infostop.{Infostop}
 use Rattle.infostop.specs.declared.answer.Labelled.{Labelled}
+use Rattle.infostop.specs.declared.steps.PlaceArrays.{PlaceArrays}
 use Rattle.infostop.specs.Models.{fitted_model, model_after}
 use Rattle.infostop.specs.Ends.{refused_with, labelled_by, told, told_by, labels_after, Ended}
-use Rattle.infostop.specs.Steps.{Space, medians_in, from_clustering, outcome_in, Grouped, fit_from, places_outcome}
-use Rattle.lists.proofs.Parts.{lent, back, take_drop_take}
-use Rattle.infostop.proofs.Arrays.{array}
-use Rattle.infostop.proofs.Placed.{medians, found, medians_are, places_in_lem, next_is}
+use Rattle.infostop.specs.Steps.{Space, medians_in, in_arrays, places_found, from_clustering, outcome_in, Grouped, fit_from, places_outcome}
+use Rattle.lists.proofs.Parts.{take_drop_take}
+use Rattle.infostop.proofs.Arrays.{array, array_part, array_whole}
+use Rattle.infostop.proofs.Placed.{found_some, found_none, count_few, front_is}
 
 -- A refusal that is the outcome.
 pub refused_ends : (m : Infostop) (old : List ℤ) (o : Outcome) (e : Refusal) → o ≡ refused e → Ended m old o (fit_from m (Err e)) old
@@ -97,62 +97,55 @@ module _ (m : Infostop) (cap k : ℕ) (floats : List Float) (words old : List �
   unfolding from_clustering given_by
   clustered = ap (λ (z : List ℤ). unless_none (none_labelled K.labels) (record { labels = z; places = ps; place_labels = K.labels; mark = K.mark; rounds = K.rounds })) labels_found
 
-  module _ (few : length ps ≤ cap) (xs ys : List Float) (cs : List ℕ) (same : places_in xs ys cs ≡ ps) (a : Result Labelled Refusal) (pl labels : List ℤ) (g : Grouped c k xs ys cs floats words old a pl labels) where
-    outcomes : outcome_in c k xs ys cs floats words old ≡ places_outcome c cap ts
-    outcomes =
-        ap (λ (z : List Place). from_clustering z (medians_in (length old) k floats) (take (length old) words) (cluster euclidean c.r2 c.label_singleton c.seed z)) same
-        ∙ clustered
-        ∙ sym (outcome_is (le-ltb cap (length ps) few))
+  module _ (few : length ps ≤ cap) (a : Result Labelled Refusal) (pl labels : List ℤ) (g : Grouped c k ps floats words old a pl labels) where
+    outcomes : outcome_in c k ps floats words old ≡ places_outcome c cap ts
+    outcomes = clustered ∙ sym (outcome_is (le-ltb cap (length ps) few))
 
-    place_labels_lem : pl ≡ K.labels
-    place_labels_lem = g.of_places ∙ ap (λ (z : List Place). (cluster euclidean c.r2 c.label_singleton c.seed z).labels) same
+    -- The model of these places, with their labels.
+    abbrev next : List ℤ → Infostop
+    next l = record { config = c; xs = (in_arrays ps).xs; ys = (in_arrays ps).ys; labels = overlay l (array (negsuc 0)); count = length ps; fitted = true }
 
-    pub placed_end : (next : Infostop) → next ≡ record { config = c; xs = overlay (place_xs ps) (array zero64); ys = overlay (place_ys ps) (array zero64); labels = overlay pl (array (negsuc 0)); count = length ps; fitted = true }
-        → Ended m old (places_outcome c cap ts) (fit_from m (with_model next a)) labels
+    pub placed_end : Ended m old (places_outcome c cap ts) (fit_from m (with_model (next pl) a)) labels
     unfolding given_by
-    placed_end next e =
-        ended m next old labels (places_outcome c cap ts) a (g.answer ∙ ap told outcomes)
-        (λ h q. let r = unless_fitted _ (given_by euclidean c cap ts ps K) h (sym (outcome_is (le-ltb cap (length ps) few)) ∙ q) in e ∙ ap
-        (λ (z : List ℤ). record {
-          config = c;
-          xs = overlay (place_xs ps) (array zero64);
-          ys = overlay (place_ys ps) (array zero64);
-          labels = overlay z (array (negsuc 0));
-          count = length ps;
-          fitted = true;
-        })
-        place_labels_lem ∙ ap (fitted_model c) (sym r))
+    placed_end =
+        ended m (next pl) old labels (places_outcome c cap ts) a (g.answer ∙ ap told outcomes)
+        (λ h q. let r = unless_fitted _ (given_by euclidean c cap ts ps K) h (sym (outcome_is (le-ltb cap (length ps) few)) ∙ q) in
+        ap next g.of_places ∙ ap (fitted_model c) (sym r))
         (g.of_fixes ∙ ap (labels_after old) outcomes)
 
 -- ---- what `from_medians` comes to
 module _ (m : Infostop) (cap k : ℕ) (floats : List Float) (words old : List ℤ) (few : cap ≤ 512) (space : Space (length old) k cap (length floats) (length words)) (ts : List (List Fix))
-    (f : AllFound m.config ts (length old) (take (4 * length old) floats) (take (length old) words) k) where
+    (f : AllFound m.config ts (length old) (take (4 * length old) floats) (take (length old) words) k) (ms : List Point) (are : ms ≡ medians_in (length old) k floats) where
   room : 4 * length old ≤ length floats
   room = omega (arith, space.floats_length)
 
-  abbrev fd : List Place
-  fd = found cap k floats words old few space
+  abbrev qs : List Place
+  qs = ps m cap k floats words old ts space.few_stays room f
 
-  found_is : fd ≡ ps m cap k floats words old ts space.few_stays room f
-  found_is = ap places (medians_are cap k floats words old few space ∙ medians_found m cap k floats words old ts space.few_stays room f)
+  found_is : places ms ≡ qs
+  found_is = ap places (are ∙ medians_found m cap k floats words old ts space.few_stays room f)
 
-  pub too_many_end : (capx : ℕ) → capx ≡ cap → ltb capx (length fd) ≡ true → Ended m old (places_outcome m.config cap ts) (fit_from m (Err TooManyPlaces)) old
-  too_many_end capx e h =
-      refused_ends m old (places_outcome m.config cap ts) TooManyPlaces
-      (too_many_outcome m cap k floats words old ts space.few_stays room f (ap₂ (λ (z : ℕ) (q : List Place). ltb z (length q)) (sym e) (sym found_is) ∙ h))
+  pub too_many_end : (e : Refusal) → Err e ≡ places_found cap (places ms) → Ended m old (places_outcome m.config cap ts) (fit_from m (Err e)) old
+  too_many_end e h =
+      let q = found_none cap (places ms) e h in
+      refused_ends m old (places_outcome m.config cap ts) e
+      (rw q.1 (too_many_outcome m cap k floats words old ts space.few_stays room f (rw found_is at (lt-ltb cap (length (places ms)) q.0))))
 
-  module _ (p capx : ℕ) (px py : List Float) (pc : List ℕ) (is : p ≡ length fd) (fits : length fd ≤ capx) (ex : capx ≡ cap)
-      (hx : px ≡ overlay (place_xs (places_within capx (medians cap k floats words old few space))) (lent 0 cap (array zero64)))
-      (hy : py ≡ overlay (place_ys (places_within capx (medians cap k floats words old few space))) (lent 0 cap (array zero64)))
-      (hc : pc ≡ overlay (place_counts (places_within capx (medians cap k floats words old few space))) (lent 0 cap (array 0)))
-      (a : Result Labelled Refusal) (pl labels : List ℤ) (long : length pl ≡ p)
-      (g : Grouped m.config k (lent 0 p (back 0 cap px (array zero64))) (lent 0 p (back 0 cap py (array zero64))) (lent 0 p (back 0 cap pc (array 0))) floats words old a pl labels) where
-    -- r is the answer, as far as it is looked at.
-    pub medians_end : (r : Result Labelled Refusal) → a ≡ r → Ended m old (places_outcome m.config cap ts)
-        (fit_from m (with_model (record { config = m.config; xs = back 0 cap px (array zero64); ys = back 0 cap py (array zero64); labels = back 0 p pl (array (negsuc 0)); count = p; fitted = true }) r)) labels
-    medians_end r q =
-        subst (λ (z : Result Labelled Refusal). Ended m old (places_outcome m.config cap ts)
-        (fit_from m (with_model (record { config = m.config; xs = back 0 cap px (array zero64); ys = back 0 cap py (array zero64); labels = back 0 p pl (array (negsuc 0)); count = p; fitted = true }) z)) labels) q
-        (placed_end m cap k floats words old ts space.few_stays room f (subst (λ (z : List Place). length z ≤ cap) found_is (subst (λ (z : ℕ). length fd ≤ z) ex fits)) _ _ _
-        (places_in_lem cap k floats words old few space p capx px py pc is fits ex hx hy hc ∙ found_is) a pl labels g _
-        (next_is cap k floats words old few space p capx px py pc is fits ex hx hy hc m.config pl _ long found_is))
+  module _ (a : PlaceArrays) (e : Ok a ≡ places_found cap (places ms)) (r : Result Labelled Refusal) (pl labels : List ℤ) (long : length pl ≡ length (take a.count (array (negsuc 0))))
+      (g : Grouped m.config k (front a.xs a.ys a.counts a.count) floats words old r pl labels) where
+    arrays_are : a ≡ in_arrays qs
+    arrays_are = (found_some cap (places ms) a e).1 ∙ ap in_arrays found_is
+
+    end : Ended m old (places_outcome m.config cap ts)
+        (fit_from m (with_model (record { config = m.config; xs = a.xs; ys = a.ys; labels = overlay pl (array (negsuc 0)); count = a.count; fitted = true }) r)) labels
+    end =
+        subst
+        (λ (z : PlaceArrays). Ended m old (places_outcome m.config cap ts)
+        (fit_from m (with_model (record { config = m.config; xs = z.xs; ys = z.ys; labels = overlay pl (array (negsuc 0)); count = z.count; fitted = true }) r)) labels) (sym arrays_are)
+        (placed_end m cap k floats words old ts space.few_stays room f (subst (λ (z : List Place). length z ≤ cap) found_is (found_some cap (places ms) a e).0) r pl labels
+        (subst (λ (z : List Place). Grouped m.config k z floats words old r pl labels) (front_is a qs arrays_are) g))
+
+    -- s is the answer, as far as it is looked at.
+    pub medians_end : (s : Result Labelled Refusal) → r ≡ s → Ended m old (places_outcome m.config cap ts)
+        (fit_from m (with_model (record { config = m.config; xs = a.xs; ys = a.ys; labels = pl ++ drop a.count (array (negsuc 0)); count = a.count; fitted = true }) s)) labels
+    medians_end s q = rw (← q, array_whole (negsuc 0) pl a.count (long ∙ array_part (negsuc 0) a.count (count_few cap (places ms) a few e))) end

@@ -1,40 +1,94 @@
--- The places of the stays' medians: how many they are, and the slices that hold them.
-use mathlib.Core.Path.{◌≡◌, sym, ap, ap₂, ◌∙◌, subst}
-use mathlib.Core.Bool.{true}
-use mathlib.Core.List.{List, [], ◌∷◌}
-use Rattle.std.specs.Prelude.{Option, Some, None}
-use Prim.Native.Nat.{ℕ, ◌+◌, ◌*◌, ◌<◌, ◌≤◌}
-use native.Mathlib.Nat.{add-sub_cancel_left, mul-le-mul}
+-- The places of the stays' medians: how many they are, and the arrays that hold them.
+use mathlib.Core.Path.{◌≡◌, refl, sym, ap, ◌∙◌, subst}
+use mathlib.Core.List.{List, [], ◌∷◌, ◌++◌}
+use Rattle.std.specs.Prelude.{Option, Some, None, Ok, Err}
+use Prim.Native.Nat.{ℕ, ◌*◌, ◌<◌, ◌≤◌}
+use native.Mathlib.Decide.{dec_lt}
+use native.Mathlib.Nat.{mul-le-mul}
 use native.Mathlib.Omega.{arith}
-use borrow.Author.Tests.{lt-ltb}
-use lib.Dec.{ltb}
-use lib.IntN.{ℤ, negsuc}
+use borrow.Author.Tests.{le-leb, lt-leb}
+use lib.IntN.{negsuc}
 use lib.ListN.{length, take, drop}
 use lib.Ieee.{Float}
 use Rattle.lists.specs.Lists.{overlay}
+use Rattle.lists.proofs.Overlay.{take_front}
 use Rattle.float.specs.Binary64.{zero64}
 use Rattle.distance.specs.declared.Point.{Point}
-use Rattle.neighbors.specs.Places.{Place, place_at, places, places_in, place_xs, place_ys}
-use Rattle.neighbors.specs.StepsPlaces.{places_within, stay_count, place_counts, distinct_within}
 use Rattle.distance.specs.Distance.{points}
+use Rattle.neighbors.specs.Places.{Place, place_at, places, place_xs, place_ys}
+use Rattle.neighbors.specs.StepsPlaces.{places_within, front, place_counts, distinct_within}
 use Rattle.neighbors.proofs.Within.{within_some, within_none, within_places, length_place_xs, length_place_ys, length_place_counts, places_columns}
 use Rattle.neighbors.proofs.Found.{counted, all_counted}
-use Rattle.settings.specs.declared.config.Config.{Config}
-use Rattle.infostop.specs.declared.model.Infostop.{Infostop}
-use Rattle.infostop.specs.Steps.{PlaceSlices, Space, medians_in}
-use Rattle.lists.proofs.Parts.{lent, back, lent_length}
-use Rattle.infostop.proofs.Arrays.{array, array_front, array_whole, column}
+use Rattle.settings.specs.declared.refusal.Refusal.{Refusal}
+use Rattle.settings.specs.declared.refusal.Refusal.TheVariants.{TooManyPlaces}
+use Rattle.infostop.specs.declared.steps.PlaceArrays.{PlaceArrays}
+use Rattle.infostop.specs.Steps.{PlaceSlices, Space, in_arrays, places_found}
+use Rattle.infostop.proofs.Arrays.{array, array_part, array_front}
 
 -- ---- how many places
 
-pub too_many : (r : Option ℕ) (cap : ℕ) (ps : List Place) → r ≡ distinct_within cap ps → r ≡ None → ltb cap (length ps) ≡ true
-too_many r cap ps e q = lt-ltb cap (length ps) (within_none cap ps (sym q ∙ e))
+found_ok : (cap : ℕ) (ps : List Place) → length ps ≤ cap → Ok (in_arrays ps) ≡ places_found cap ps
+unfolding places_found
+found_ok cap ps h = rw (le-leb (length ps) cap h)
 
-pub some_places : (r : Option ℕ) (p cap : ℕ) (ps : List Place) → r ≡ distinct_within cap ps → r ≡ Some p → (p ≡ length ps) × (length ps ≤ cap)
-some_places r p cap ps e q = let z = within_some cap ps p (sym q ∙ e) in (z.0, omega arith)
+found_more : (cap : ℕ) (ps : List Place) → cap < length ps → Err TooManyPlaces ≡ places_found cap ps
+unfolding places_found
+found_more cap ps h = rw (lt-leb (length ps) cap h)
 
-pub places_fit : (r : Option ℕ) (p cap capx : ℕ) (ps : List Place) → r ≡ distinct_within capx ps → r ≡ Some p → capx ≡ cap → p ≤ cap
-places_fit r p cap capx ps e q h = let z = some_places r p capx ps e q in omega arith
+-- What `find_places` tells.
+pub found_some : (cap : ℕ) (ps : List Place) (a : PlaceArrays) → Ok a ≡ places_found cap ps → (length ps ≤ cap) × (a ≡ in_arrays ps)
+found_some cap ps a e = go (dec_lt cap (length ps))
+  where
+    go : Dec (cap < length ps) → (length ps ≤ cap) × (a ≡ in_arrays ps)
+    go (yes h) = let f : Ok a ≡ Err TooManyPlaces = e ∙ sym (found_more cap ps h) in absurd (cc)
+    go (no h) = let f : Ok a ≡ Ok (in_arrays ps) = e ∙ sym (found_ok cap ps (omega arith)) in (omega arith, cc)
+
+pub found_none : (cap : ℕ) (ps : List Place) (r : Refusal) → Err r ≡ places_found cap ps → (cap < length ps) × (r ≡ TooManyPlaces)
+found_none cap ps r e = go (dec_lt cap (length ps))
+  where
+    go : Dec (cap < length ps) → (cap < length ps) × (r ≡ TooManyPlaces)
+    go (yes h) = let f : Err r ≡ Err TooManyPlaces = e ∙ sym (found_more cap ps h) in (h, cc)
+    go (no h) = let f : Err r ≡ Ok (in_arrays ps) = e ∙ sym (found_ok cap ps (omega arith)) in absurd (cc)
+
+-- ---- what `distinct` writes at the front of the arrays
+module _ (cap : ℕ) (few : cap ≤ 512) (ms : List Point) (r : Option ℕ) (e : r ≡ distinct_within (length (take cap (array zero64))) (places ms)) where
+  abbrev capx : ℕ
+  capx = length (take cap (array zero64))
+
+  pub too_many : r ≡ None → Err TooManyPlaces ≡ places_found cap (places ms)
+  too_many q = found_more cap (places ms) (omega (arith, array_part zero64 cap few, within_none capx (places ms) (sym q ∙ e)))
+
+  pub arrays_laid : (p : ℕ) → r ≡ Some p → (px py : List Float) (pc : List ℕ)
+      → px ≡ overlay (place_xs (places_within capx ms)) (take cap (array zero64))
+      → py ≡ overlay (place_ys (places_within capx ms)) (take cap (array zero64))
+      → pc ≡ overlay (place_counts (places_within capx ms)) (take cap (array 0))
+      → Ok (record { xs = px ++ drop cap (array zero64); ys = py ++ drop cap (array zero64); counts = pc ++ drop cap (array 0); count = p }) ≡ places_found cap (places ms)
+  arrays_laid p q px py pc hx hy hc =
+      let n = within_some capx (places ms) p (sym q ∙ e) in
+      let w : places_within capx ms ≡ places ms = within_places capx ms (omega (arith, n.0, n.1)) in
+      let room : length (places ms) ≤ cap = omega (arith, n.0, n.1, array_part zero64 cap few) in
+      rw (
+        array_front zero64 cap (place_xs (places ms)) px few (omega (arith, room, length_place_xs (places ms))) (rw w at hx),
+        array_front zero64 cap (place_ys (places ms)) py few (omega (arith, room, length_place_ys (places ms))) (rw w at hy),
+        array_front 0 cap (place_counts (places ms)) pc few (omega (arith, room, length_place_counts (places ms))) (rw w at hc),
+        n.0,
+      ) (found_ok cap (places ms) room)
+
+-- ---- the places in front of the arrays
+
+front_arrays : (ps : List Place) → front (in_arrays ps).xs (in_arrays ps).ys (in_arrays ps).counts (length ps) ≡ ps
+front_arrays ps = rw (
+  take_front (place_xs ps) (array zero64) _ (length ps) (sym (length_place_xs ps)) refl,
+  take_front (place_ys ps) (array zero64) _ (length ps) (sym (length_place_ys ps)) refl,
+  take_front (place_counts ps) (array 0) _ (length ps) (sym (length_place_counts ps)) refl,
+) (places_columns ps)
+
+pub front_is : (a : PlaceArrays) (ps : List Place) → a ≡ in_arrays ps → front a.xs a.ys a.counts a.count ≡ ps
+front_is a ps e = rw e (front_arrays ps)
+
+-- They are no more than the arrays hold.
+pub count_few : (cap : ℕ) (ps : List Place) (a : PlaceArrays) → cap ≤ 512 → Ok a ≡ places_found cap ps → a.count ≤ 512
+count_few cap ps a h e = let f = found_some cap ps a e in rw f.1 (omega (arith, f.0))
 
 points_few : (xs ys : List Float) → length (points xs ys) ≤ length xs
 unfolding points
@@ -42,112 +96,39 @@ points_few [] ys = omega arith
 points_few (x ∷ xs) [] = omega arith
 points_few (x ∷ xs) (y ∷ ys) = omega (arith, points_few xs ys)
 
--- ---- the slices that `label_tracks` is lent
-module _ (cap k : ℕ) (floats : List Float) (words old : List ℤ) (few : cap ≤ 512) (space : Space (length old) k cap (length floats) (length words)) where
-  abbrev n : ℕ
-  n = length old
+-- What `label_tracks` asks of the places of k medians.
+module _ (cap n k floats words : ℕ) (few : cap ≤ 512) (space : Space n k cap floats words) (mx my : List Float) (long : length mx ≡ k) (a : PlaceArrays)
+    (e : Ok a ≡ places_found cap (places (points mx my))) where
+  abbrev ps : List Place
+  ps = places (points mx my)
 
-  -- The medians that `distinct` is lent, and their places.
-  abbrev pub medians : List Point
-  medians = points (lent (2 * n) (2 * n + k) floats) (lent (3 * n) (3 * n + k) floats)
+  abbrev qs : List Place
+  qs = front a.xs a.ys a.counts a.count
 
-  abbrev pub found : List Place
-  found = places medians
+  are : qs ≡ ps
+  are = front_is a ps (found_some cap ps a e).1
 
-  pub medians_are : medians ≡ medians_in n k floats
-  medians_are = ap₂ points (ap (λ (z : ℕ). take z (drop (2 * n) floats)) (add-sub_cancel_left (2 * n) k)) (ap (λ (z : ℕ). take z (drop (3 * n) floats)) (add-sub_cancel_left (3 * n) k))
+  places_few : length qs ≤ cap
+  places_few = rw are (found_some cap ps a e).0
 
-  medians_few : length medians ≤ 65536
-  medians_few =
-      let l = lent_length (2 * n) (2 * n + k) floats (omega arith) (omega (arith, space.few_stays, space.floats_length)) in
-      omega (arith, l, add-sub_cancel_left (2 * n) k, points_few (lent (2 * n) (2 * n + k) floats) (lent (3 * n) (3 * n + k) floats), space.few_stays, space.few_fixes)
+  count_is : a.count ≡ length qs
+  count_is = rw are (ap (λ (z : PlaceArrays). z.count) (found_some cap ps a e).1)
 
-  module _ (p capx : ℕ) (px py : List Float) (pc : List ℕ) (is : p ≡ length found) (fits : length found ≤ capx) (ex : capx ≡ cap) where
-    within : places_within capx medians ≡ found
-    within = within_places capx medians fits
+  place_slices : PlaceSlices qs (length (take a.count (array (negsuc 0))))
+  place_slices = record {
+    labels_length = array_part (negsuc 0) a.count (count_few cap ps a few e) ∙ count_is;
+    few = omega (arith, places_few);
+    counted = subst (λ (z : List Place). (i : ℕ) → i < length z → 0 < (place_at z i).count) (sym are) (counted (points mx my));
+    stays = rw are (omega (arith, all_counted (points mx my), points_few mx my, space.few_stays, space.few_fixes));
+  }
 
-    small : length found ≤ cap
-    small = omega arith
+  label_space : Space n k (length qs) floats words
+  label_space = record {
+    few_fixes = space.few_fixes;
+    few_stays = space.few_stays;
+    floats_length = let h : length qs * length qs ≤ cap * cap = mul-le-mul places_few places_few in omega (arith, h, space.floats_length);
+    words_length = space.words_length;
+  }
 
-    abbrev xs' : List Float
-    xs' = back 0 cap px (array zero64)
-
-    abbrev ys' : List Float
-    ys' = back 0 cap py (array zero64)
-
-    abbrev cs' : List ℕ
-    cs' = back 0 cap pc (array 0)
-
-    module _ (hx : px ≡ overlay (place_xs (places_within capx medians)) (lent 0 cap (array zero64))) (hy : py ≡ overlay (place_ys (places_within capx medians)) (lent 0 cap (array zero64)))
-        (hc : pc ≡ overlay (place_counts (places_within capx medians)) (lent 0 cap (array 0))) where
-      pub xs_are : xs' ≡ overlay (place_xs found) (array zero64)
-      xs_are = array_front zero64 cap (place_xs found) px few (omega (arith, small, length_place_xs found)) (hx ∙ ap (λ (z : List Place). overlay (place_xs z) (lent 0 cap (array zero64))) within)
-
-      pub ys_are : ys' ≡ overlay (place_ys found) (array zero64)
-      ys_are = array_front zero64 cap (place_ys found) py few (omega (arith, small, length_place_ys found)) (hy ∙ ap (λ (z : List Place). overlay (place_ys z) (lent 0 cap (array zero64))) within)
-
-      pub cs_are : cs' ≡ overlay (place_counts found) (array 0)
-      cs_are = array_front 0 cap (place_counts found) pc few (omega (arith, small, length_place_counts found)) (hc ∙ ap (λ (z : List Place). overlay (place_counts z) (lent 0 cap (array 0))) within)
-
-      column_x : lent 0 p xs' ≡ place_xs found
-      column_x = column zero64 (place_xs found) xs' p (length_place_xs found ∙ sym is) xs_are
-
-      column_y : lent 0 p ys' ≡ place_ys found
-      column_y = column zero64 (place_ys found) ys' p (length_place_ys found ∙ sym is) ys_are
-
-      column_c : lent 0 p cs' ≡ place_counts found
-      column_c = column 0 (place_counts found) cs' p (length_place_counts found ∙ sym is) cs_are
-
-      -- The places in the slices are the places of the medians.
-      pub places_in_lem : places_in (lent 0 p xs') (lent 0 p ys') (lent 0 p cs') ≡ found
-      places_in_lem = rw (column_x, column_y, column_c) (places_columns found)
-
-      length_x : length (lent 0 p xs') ≡ length found
-      length_x = ap length column_x ∙ length_place_xs found
-
-      pub place_slices : (l : ℕ) → l ≡ p → PlaceSlices (lent 0 p xs') (lent 0 p ys') (lent 0 p cs') l
-      place_slices l e = record {
-        ordinates = ap length column_y ∙ length_place_ys found ∙ sym length_x;
-        counts = ap length column_c ∙ length_place_counts found ∙ sym length_x;
-        labels_length = e ∙ is ∙ sym length_x;
-        few = omega (arith, length_x, small);
-        counted = subst (λ (z : List Place). (i : ℕ) → i < length z → 0 < (place_at z i).count) (sym places_in_lem) (counted medians);
-        stays = subst (λ (z : List Place). stay_count z ≤ 65536) (sym places_in_lem) (omega (arith, all_counted medians, medians_few));
-      }
-
-      pub label_space : Space n k (length (lent 0 p xs')) (length floats) (length words)
-      label_space = record {
-        few_fixes = space.few_fixes;
-        few_stays = space.few_stays;
-        floats_length = le_square (length (lent 0 p xs')) (omega (arith, length_x, small)) space.floats_length;
-        words_length = space.words_length;
-      }
-        where
-          le_square : (m : ℕ) → m ≤ cap → 4 * n + cap * cap ≤ length floats → 4 * n + m * m ≤ length floats
-          le_square m h q = let z = mul-le-mul h h in omega arith
-
-      -- The model of these places, with labels pl of as many.
-      pub next_is : (c : Config) (pl : List ℤ) (ps : List Place) → length pl ≡ p → found ≡ ps
-          → ◌≡◌ {A = Infostop} (record { config = c; xs = xs'; ys = ys'; labels = back 0 p pl (array (negsuc 0)); count = p; fitted = true })
-          (record { config = c; xs = overlay (place_xs ps) (array zero64); ys = overlay (place_ys ps) (array zero64); labels = overlay pl (array (negsuc 0)); count = length ps; fitted = true })
-      next_is c pl ps l e =
-          ap₂ (λ (x y : List Float). record { config = c; xs = x; ys = y; labels = back 0 p pl (array (negsuc 0)); count = p; fitted = true })
-          xs_are ys_are ∙ ap₂
-          (λ (z : List ℤ) (k : ℕ). record {
-            config = c;
-            xs = overlay (place_xs found) (array zero64);
-            ys = overlay (place_ys found) (array zero64);
-            labels = z;
-            count = k;
-            fitted = true;
-          })
-          (array_whole (negsuc 0) pl p l) is ∙ ap
-          (λ (z : List Place). record {
-            config = c;
-            xs = overlay (place_xs z) (array zero64);
-            ys = overlay (place_ys z) (array zero64);
-            labels = overlay pl (array (negsuc 0));
-            count = length z;
-            fitted = true;
-          })
-          e
+  pub asked : PlaceSlices qs (length (take a.count (array (negsuc 0)))) × Space n k (length qs) floats words
+  asked = (place_slices, label_space)

@@ -5,6 +5,7 @@ use mathlib.Core.List.{List, [], ◌∷◌}
 use Rattle.distance.specs.declared.Point.{Point}
 use Rattle.distance.specs.Distance.{euclidean, Metric}
 use Rattle.settings.specs.declared.config.Config.{Config}
+use Rattle.trace.specs.declared.Tracks.{Tracks}
 use Rattle.trace.specs.Trace.{Fix, fixes, traces}
 use Rattle.neighbors.specs.Places.{Place, places}
 use Rattle.infomap.specs.Infomap.{RunMark}
@@ -68,3 +69,7 @@ unfolding unless_refused check_config check_tracks fit_traces fixes traces
 fit c xs ys times marks lens labels cap floats words =
     unless_refused (check_config c)
     (unless_refused (check_tracks xs ys times marks lens labels cap floats words) (fit_traces euclidean c cap (traces lens (fixes xs ys times marks))))
+
+-- The same of tracks handed over.
+abbrev pub fit_of : Config → Tracks → ℕ → ℕ → ℕ → ℕ → Outcome
+fit_of c t labels cap floats words = fit c t.xs.now t.ys.now t.times.now t.marks.now t.lens.now labels cap floats words

@@ -1,5 +1,7 @@
 // Standard input, read to its end in pieces of up to 65,536 bytes, whatever its length. A call of `read` that fails is not the end: the text is then
 // refused (22). No contract can name what a call gave, so it is said of each call by itself (`take_piece`, exactly) and of the calls together (`read_input`).
+// Kept as it is: each function takes the columns as five slices. In a struct lent by `&mut` each of them, and the loop, would have to say of all five that
+// they are still the caller's (`c.new.xs.ghost_name ≡ c.old.xs.ghost_name` and so on), as is told at `feed` of crate `text`.
 #![tactic(auto)]
 
 ghost use Rattle.std.specs.Prelude.{◌≡◌, List};
@@ -41,7 +43,6 @@ fn next_of(got: Option<usize>) -> Next
 }
 
 // Takes what a call of `read` gave: what it told, how many bytes or that it failed, and the buffer as the call left it.
-// Kept as it is: the columns are lent slices side by side, as a fit takes them.
 pub fn take_piece(
     told: std::io::Result<usize>,
     buf: &[u8],

@@ -1,16 +1,23 @@
--- A move in the code's arrays, of which the first n places are the state.
-use mathlib.Core.Path.{◌≡◌, ap, ◌∙◌}
+-- The change of codelength from a row, and a move in the code's arrays, of which the first n places are the state.
+use mathlib.Core.Path.{◌≡◌, refl, ap, ◌∙◌}
 use mathlib.Core.List.{List}
 use Prim.Native.Nat.{ℕ, ◌<◌, ◌≤◌}
 use native.Mathlib.Omega.{arith}
 use lib.ListN.{length, get_or, set, take, length-set}
 use lib.Seq.{length-take-le, take-set-lt}
-use lib.Ieee.{Float}
-use Rattle.map_state.specs.Network.{Network}
-use Rattle.map_state.specs.MapState.{MapState, lowest, moved_by, apply_move, store_at, sum_q}
+use lib.Ieee.{Float, nan}
+use Rattle.map_state.specs.Network.{Network, row}
+use Rattle.map_state.specs.MapState.{MapState, lowest, link_weights, after_move, module_pair_delta, moved_from, delta_from, moved_by, apply_move, store_at, sum_q}
 use Rattle.map_state.specs.Steps.{Firsts, Renewed, StoredAt}
+use Rattle.map_state.specs.declared.ModuleStats.{ModuleStats}
 use Rattle.map_state.specs.declared.Moved.{Moved}
 use Rattle.map_state.proofs.Leaders.{apply_move_is, firsts_move}
+
+-- `delta_from` of a network with this row is what the function `delta_move` promises
+pub delta_from_row : (net : Network) (part : List ℕ) (q : Float) (u h : ℕ) (src dest : ModuleStats)
+    → module_pair_delta net.d q src dest (after_move (link_weights (get_or part u 0) h part (row net u)) (get_or net.strength u nan) src dest) ≡ delta_from net part q u h src dest
+unfolding delta_from moved_from
+delta_from_row net part q u h src dest = refl
 
 module _ (n : ℕ) (p : List ℕ) (s : MapState) (u h : ℕ) (same : take n p ≡ s.partition) (room : n ≤ length p) (inside : u < length s.partition) where
   abbrev part : List ℕ

@@ -11,11 +11,15 @@ use lib.Seq.{drop-cons, drop-drop, ext_get_or, length-take-le, take-nil, take_at
 use lib.Ieee.{Float, nan, lt}
 use Rattle.float.specs.Binary64.{add64, mul64, zero64, two64}
 use Rattle.map_state.specs.Network.{Network, row_at, add_weights, strengths_from, strengths_of, total_from, total_weight, network}
-use Rattle.map_state.specs.Steps.{Rows}
+use Rattle.map_state.specs.Steps.{Rows, EachRow}
 
 -- a row ends inside the table
 pub row_inside : (t : List Float) (m n u : ℕ) → Rows t m n → u < n → u * m + n ≤ length t
 row_inside t m n u r h = omega (arith, mul-le-mul_right {m = u + 1} {n = n} m (omega arith), r.wide, r.rows)
+
+-- likewise where the last row may end after its n numbers
+pub row_within : (t : List Float) (m n u : ℕ) → EachRow t m n → u < n → u * m + n ≤ length t
+row_within t m n u r h = r.inside u h
 
 -- a row as the code lends it
 pub row_length : (table : List Float) (s n : ℕ) → s + n ≤ length table → length (take (s + n - s) (drop s table)) ≡ n

@@ -1,23 +1,36 @@
 -- Serves the contracts of this crate's own functions; no public contract reaches it.
 -- What the code's functions ask of the network and of the state, and what holds of the code's slices.
-use Rattle.std.specs.Prelude.{◌≡◌, ℕ, ◌*◌, ◌<◌, ◌≤◌, cond, List, eqb, length, get_or, take, Float}
+use Rattle.std.specs.Prelude.{◌≡◌, ℕ, ◌+◌, ◌*◌, ◌<◌, ◌≤◌, cond, List, eqb, length, get_or, take, Float}
 use Rattle.map_state.specs.Network.{Network}
 use Rattle.map_state.specs.MapState.{MapState, lowest, stats_of, store_at}
 use Rattle.map_state.specs.declared.ModuleStats.{ModuleStats}
 
--- The table has a row for each of n nodes, at most 512.
+abbrev pub net_of : List Float → ℕ → List Float → Float → Network
+net_of table stride strength d = record { table = table; stride = stride; strength = strength; d = d }
+
+-- The table has a row for each of n nodes, at most 512, and all of them at the full stride.
 pub record Rows (table : List Float) (stride n : ℕ) : Type 0 where
   pub narrow : stride ≤ 512
   pub wide : n ≤ stride
   pub rows : n * stride ≤ length table
 
+-- The table has a row for each of n nodes, at most 512: n numbers of it. The last may end there, and rows may share numbers.
+pub record EachRow (table : List Float) (stride n : ℕ) : Type 0 where
+  pub narrow : stride ≤ 512
+  pub few : n ≤ 512
+  pub inside : (u : ℕ) → u < n → u * stride + n ≤ length table
+
 -- Of each node the lowest member of its group.
 unfoldable pub Firsts : List ℕ → List ℕ → Type 0
 Firsts part first = (v : ℕ) → v < length part → get_or first v 0 ≡ lowest (get_or part v 0) part
 
+-- The groups' sums of at most 512 nodes.
+abbrev pub Summed : List ℕ → List Float → List Float → Type 0
+Summed part exits strengths = (length part ≤ 512) × (length exits ≡ length part) × (length strengths ≡ length part)
+
 -- The lists of a state are of one length, at most 512.
 abbrev pub Even : MapState → Type 0
-Even s = (length s.partition ≤ 512) × (length s.exits ≡ length s.partition) × (length s.strengths ≡ length s.partition)
+Even s = Summed s.partition s.exits s.strengths
 
 -- A state of the network's nodes, and one of them.
 abbrev pub Fits : Network → MapState → Type 0

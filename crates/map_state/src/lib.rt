@@ -1,11 +1,11 @@
 // The map state of the grouping run: the network, what a run carries, the change of codelength by a move, and the move.
-// Kept as it is: arrays of fixed size, of which a part is lent, since the project's memory is fixed and it takes no heap.
+// Kept as it is: arrays of fixed size, of which a part is lent, since the project takes no heap (docs/DECISIONS.md, "No heap").
 #![tactic(auto)]
 
 ghost use Rattle.std.specs.Prelude.{◌≡◌, ◌+◌, ◌-◌, ◌*◌, ◌<◌, ◌≤◌, ◌==◌, length, get_or, position};
 ghost use Rattle.map_state.specs.Network.{row, add_weights, strengths_of, total_weight, network};
-ghost use Rattle.map_state.specs.MapState.{add_link, link_weights, lowest, count, after_move, module_terms, module_pair_delta, stats_of, sum_q, moved_from, delta_move, apply_move};
-ghost use Rattle.map_state.specs.Steps.{Rows, Firsts, Room, StoredAt, Even, AtNode, Renewed, MoveSums};
+ghost use Rattle.map_state.specs.MapState.{add_link, link_weights, lowest, count, after_move, module_terms, module_pair_delta, stats_at, stats_of, sum_q, delta_move, apply_move};
+ghost use Rattle.map_state.specs.Steps.{net_of, Rows, EachRow, Firsts, Summed, Room, StoredAt, Even, AtNode, Renewed, MoveSums};
 
 use std::marker::Model;
 
@@ -48,8 +48,9 @@ fn add_weights(row: &[f64], start: f64) -> f64
 }
 
 // Writes the strengths of the nodes, as many as the slice is long.
+// Kept as it is: table and stride side by side, here and in `total_weight`, since a `Network` is not made before its strengths and D are.
 #[tactic(auto, using(crate::proofs::Rows::row_inside))]
-fn sum_strengths(table: &[f64], stride: usize, strength: &mut [f64])
+pub fn sum_strengths(table: &[f64], stride: usize, strength: &mut [f64])
     requires { Rows table.now stride (length strength.old) }
     ensures { strength.new ≡ strengths_of table.now stride (length strength.old) }
 {
@@ -62,7 +63,7 @@ fn sum_strengths(table: &[f64], stride: usize, strength: &mut [f64])
 
 // The total weight of n nodes' links, each counted once.
 #[tactic(auto, using(crate::proofs::Rows::row_inside))]
-fn total_weight(table: &[f64], stride: usize, n: usize) -> f64
+pub fn total_weight(table: &[f64], stride: usize, n: usize) -> f64
     requires { Rows table.now stride n }
     ensures { result ≡ total_weight table.now stride n }
 {
@@ -177,6 +178,87 @@ fn module_pair_delta_l(d: f64, q: f64, src: ModuleStats, dest: ModuleStats, m: M
     after - before
 }
 
+// What the move of a node from group g to h makes of the two groups, `src` and `dest` before it. `row` holds the node's weights and
+// `s` is its strength.
+fn move_of(
+    row: &[f64],
+    s: f64,
+    partition: &[u32],
+    g: u32,
+    h: u32,
+    src: ModuleStats,
+    dest: ModuleStats,
+) -> Moved
+    requires { (length row.now ≡ length partition.now) × (0 < src.n_nodes) × (dest.n_nodes ≤ 512) }
+    ensures { result ≡ after_move (link_weights g h partition.now row.now) s src dest }
+{
+    after_move(link_weights(partition, row, g, h), s, src, dest)
+}
+
+// The change of codelength by such a move. `d` is D and `q` is Q.
+// Kept as it is: the row, the strength and D side by side, since a caller may have them without the other rows of a `Network`.
+pub fn delta_move(
+    row: &[f64],
+    s: f64,
+    d: f64,
+    partition: &[u32],
+    q: f64,
+    g: u32,
+    h: u32,
+    src: ModuleStats,
+    dest: ModuleStats,
+) -> f64
+    requires { (length row.now ≡ length partition.now) × (0 < src.n_nodes) × (dest.n_nodes ≤ 512) }
+    ensures { result ≡ module_pair_delta d q src dest (after_move (link_weights g h partition.now row.now) s src dest) }
+{
+    let m = move_of(row, s, partition, g, h, src, dest);
+    module_pair_delta_l(d, q, src, dest, m)
+}
+
+// A group's sums, from the place where they stand.
+fn stats_at(partition: &[u32], exits: &[f64], strengths: &[f64], slot: usize, g: u32) -> ModuleStats
+    requires { (Summed partition.now exits.now strengths.now) × (slot < length partition.now) × (slot ≡ lowest g partition.now) }
+    ensures { result ≡ stats_at partition.now exits.now strengths.now g }
+{
+    ModuleStats {
+        exit: exits[slot],
+        strength: strengths[slot],
+        n_nodes: members(partition, g),
+    }
+}
+
+// A group's sums, wherever they stand; an empty group's are 0.
+// Kept as it is: slices side by side, here and in `sum_q`, since a caller may have some that no `MapState` holds: without the lowest
+// members, or longer. Asking for one would ask for more; the methods of these names serve who has one.
+pub fn find_stats(partition: &[u32], exits: &[f64], strengths: &[f64], g: u32) -> ModuleStats
+    requires { Summed partition.now exits.now strengths.now }
+    ensures { result ≡ stats_at partition.now exits.now strengths.now g }
+{
+    match lowest(partition, g) {
+        Some(a) => stats_at(partition, exits, strengths, a, g),
+        None => ModuleStats {
+            exit: 0.0,
+            strength: 0.0,
+            n_nodes: 0,
+        },
+    }
+}
+
+// Q, by lowest member.
+#[tactic(auto, using(crate::proofs::Leaders::q_yes, crate::proofs::Leaders::q_no))]
+pub fn sum_q(partition: &[u32], first: &[u32], exits: &[f64], d: f64) -> f64
+    requires { (length first.now ≡ length partition.now) × (length exits.now ≡ length partition.now) × Firsts partition.now first.now }
+    ensures { result ≡ sum_q d partition.now exits.now }
+{
+    let mut a = 0.0;
+    for v in 0..first.len() {
+        if first[v] as usize == v {
+            a += exits[v] / d;
+        }
+    }
+    a
+}
+
 // Gives each member of group g the number `a`.
 fn renew_first(partition: &[u32], first: &mut [u32], g: u32, a: u32)
     requires { length partition.now ≤ length first.old }
@@ -190,7 +272,8 @@ fn renew_first(partition: &[u32], first: &mut [u32], g: u32, a: u32)
 }
 
 // Stores a group's sums at its lowest member, and gives it to the members; an empty group's are forgotten.
-// Kept as it is: a function over the arrays, since it runs while the lowest members are stale, where no method of the state may be called.
+// Kept as it is: a function over the arrays. A method would be called on a state whose `first` holds the lowest members, which is what the
+// model promises; between the two groups of a move it does not, so a method would need a second struct, without that promise, for it alone.
 fn store_group(
     partition: &[u32],
     first: &mut [u32],
@@ -227,11 +310,11 @@ impl<'a> Model for Network<'a> {
 
     ghost Value = { Network };
 
-    ghost use Rattle.map_state.specs.Steps.{Rows};
+    ghost use Rattle.map_state.specs.Steps.{EachRow};
 
     ghost view = { λ a. record { table = a.table.now; stride = a.stride; strength = take a.n a.strength; d = a.d } };
 
-    ghost invariant = { λ a. Rows a.table.now a.stride a.n };
+    ghost invariant = { λ a. EachRow a.table.now a.stride a.n };
 }
 
 impl<'a> Network<'a> {
@@ -248,6 +331,23 @@ impl<'a> Network<'a> {
             stride,
             n,
             strength,
+            d,
+        }
+    }
+
+    // The network of these strengths and this D, whatever they are.
+    pub fn from_parts(table: &'a [f64], stride: usize, strength: &[f64], d: f64) -> Self
+        requires { EachRow table.now stride (length strength.now) }
+        ensures { result ≡ net_of table.now stride strength.now d }
+    {
+        let n = strength.len();
+        let mut kept = [0.0; 512];
+        kept[..n].copy_from_slice(strength);
+        Network {
+            table,
+            stride,
+            n,
+            strength: kept,
             d,
         }
     }
@@ -276,7 +376,9 @@ impl<'a> Network<'a> {
 
 // What the run carries, one element a node: `partition`, the internal number of the node's group; `first`, the lowest member of that
 // group; `exits` and `strengths`, a group's sums, at its lowest member. `q` is Q.
-// Kept as it is: arrays side by side and of fixed size, since the library takes no heap and the definitions have a list of each.
+// Kept as it is: arrays side by side. One array of a struct a node would be no plainer: eleven functions and a copy take the partition alone
+// as a slice of numbers (`lowest`, `members`, `link_weights`, `highest` of scan, the grouping that infomap keeps), and each would need a
+// loop that takes the groups out first; `fill` clears the sums alone. The arrays are of fixed size since the project takes no heap.
 #[derive(Drop)]
 pub struct MapState {
     pub n: usize,
@@ -329,65 +431,34 @@ impl MapState {
         &self.strengths[..self.n]
     }
 
-    // A group's sums, from the place where they stand.
-    fn stats_at(&self, slot: usize, g: u32) -> ModuleStats
-        requires { (slot < length self.now.partition) × (slot ≡ lowest g self.now.partition) }
-        ensures { result ≡ stats_of self.now g }
-    {
-        ModuleStats {
-            n_nodes: members(self.partition(), g),
-            exit: self.exits()[slot],
-            strength: self.strengths()[slot],
-        }
-    }
-
     // The sums of a node's own group.
     pub fn own_stats(&self, v: usize) -> ModuleStats
         requires { v < length self.now.partition }
         ensures { result ≡ stats_of self.now (get_or self.now.partition v 0) }
     {
-        let g = self.partition()[v];
-        self.stats_at(self.first()[v] as usize, g)
+        let partition = self.partition();
+        let slot = self.first()[v] as usize;
+        stats_at(
+            partition,
+            self.exits(),
+            self.strengths(),
+            slot,
+            partition[v],
+        )
     }
 
     // A group's sums, wherever they stand; an empty group's are 0.
     pub fn find_stats(&self, g: u32) -> ModuleStats
         ensures { result ≡ stats_of self.now g }
     {
-        match lowest(self.partition(), g) {
-            Some(a) => self.stats_at(a, g),
-            None => ModuleStats {
-                exit: 0.0,
-                strength: 0.0,
-                n_nodes: 0,
-            },
-        }
+        find_stats(self.partition(), self.exits(), self.strengths(), g)
     }
 
     // Q, by lowest member.
-    #[tactic(auto, using(crate::proofs::Leaders::q_yes, crate::proofs::Leaders::q_no))]
     pub fn sum_q(&self, d: f64) -> f64
         ensures { result ≡ sum_q d self.now.partition self.now.exits }
     {
-        let first = self.first();
-        let exits = self.exits();
-        let mut a = 0.0;
-        for v in 0..first.len() {
-            if first[v] as usize == v {
-                a += exits[v] / d;
-            }
-        }
-        a
-    }
-
-    // What a move of u to h makes of the two groups, `src` and `dest` before it.
-    fn move_of(&self, net: &Network, u: usize, h: u32, src: ModuleStats, dest: ModuleStats) -> Moved
-        requires { (AtNode net.now self.now u) × (MoveSums self.now u h src dest) }
-        ensures { result ≡ moved_from net.now self.now.partition u h src dest }
-    {
-        let partition = self.partition();
-        let l = link_weights(partition, net.row(u), partition[u], h);
-        after_move(l, net.strength()[u], src, dest)
+        sum_q(self.partition(), self.first(), self.exits(), d)
     }
 
     // The change of codelength if u moves to h; its group is `src` and h is `dest` before it.
@@ -402,8 +473,18 @@ impl MapState {
         requires { (AtNode net.now self.now u) × (MoveSums self.now u h src dest) }
         ensures { result ≡ delta_move net.now self.now u h }
     {
-        let mv = self.move_of(net, u, h, src, dest);
-        module_pair_delta_l(net.d(), self.q, src, dest, mv)
+        let partition = self.partition();
+        delta_move(
+            net.row(u),
+            net.strength()[u],
+            net.d(),
+            partition,
+            self.q,
+            partition[u],
+            h,
+            src,
+            dest,
+        )
     }
 
     // Moves u to h, another group, and makes Q anew.
@@ -414,7 +495,15 @@ impl MapState {
         let g = self.partition()[u];
         let src = self.own_stats(u);
         let dest = self.find_stats(h);
-        let mv = self.move_of(net, u, h, src, dest);
+        let mv = move_of(
+            net.row(u),
+            net.strength()[u],
+            self.partition(),
+            g,
+            h,
+            src,
+            dest,
+        );
         self.partition[u] = h;
         let partition = &self.partition[..self.n];
         store_group(

@@ -9,6 +9,7 @@ use native.Mathlib.Omega.{arith}
 use lib.ListN.{length, get_or, set}
 use lib.Seq.{get_or-set_same, get_or-set_other}
 use lib.Ieee.{Float, nan}
+use Rattle.neighbors.specs.Places.{Place}
 use Rattle.neighbors.specs.StepsTables.{Tabled, Square}
 
 -- A row lies before the next.
@@ -68,5 +69,5 @@ unfolding Tabled
 tabled_less f n t k m h l a b x y q = h a b x y (omega arith)
 
 -- A table of another content and the same length.
-pub square_as : {xs ys : List Float} {cs : List ℕ} {t s : List Float} → Square xs ys cs t → length s ≡ length t → Square xs ys cs s
-square_as q e = record { ordinates = q.ordinates; counts = q.counts; cells = e ∙ q.cells; few = q.few }
+pub square_as : {ps : List Place} {t s : List Float} → Square ps t → length s ≡ length t → Square ps s
+square_as q e = record { cells = e ∙ q.cells; few = q.few }

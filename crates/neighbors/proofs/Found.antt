@@ -10,7 +10,7 @@ use lib.ListN.{length}
 use Rattle.distance.specs.declared.Point.{Point}
 use Rattle.neighbors.specs.Places.{Place, same_place, place_of, sighted, sighted_all, places, place_at}
 use Rattle.neighbors.specs.StepsPlaces.{stay_count}
-use Rattle.neighbors.proofs.SameBits.{same_self}
+use Rattle.neighbors.proofs.SamePlace.{same_self}
 use Rattle.lists.proofs.Items.{Among}
 use Rattle.neighbors.proofs.Sighted.{counted_all, count_le, longer_all}
 

@@ -1,4 +1,4 @@
-pub mod SameBits
+pub mod SamePlace
 pub mod Sighted
 pub mod Search
 pub mod Within

@@ -1,5 +1,5 @@
 -- Links: they go both ways, no place links to itself, and what the table's cells are worked out from.
-use mathlib.Core.Path.{◌≡◌, refl, sym, ◌∙◌, subst}
+use mathlib.Core.Path.{◌≡◌, refl, sym, ap, ◌∙◌, subst}
 use mathlib.Core.Logic.{◌≢◌}
 use mathlib.Core.Bool.{true, false, not, ◌&&◌, cond}
 use mathlib.Core.List.{List, [], ◌∷◌}
@@ -17,6 +17,7 @@ use Rattle.distance.specs.declared.Point.{Point}
 use Rattle.neighbors.specs.Places.{Place, places_in, place_at}
 use Rattle.distance.specs.Distance.{Metric}
 use Rattle.neighbors.specs.Links.{apart, link, weight}
+use Rattle.neighbors.proofs.Sighted.{length_places_in}
 
 module _ (dist : Metric) (r2 : Float) (ps : List Place) where
   apart_sym : (i j : ℕ) → i ≢ j → apart dist ps i j ≡ apart dist ps j i
@@ -67,23 +68,26 @@ place_in (x ∷ xs) (y ∷ ys) [] i p q h = absurd (omega arith)
 place_in (x ∷ xs) (y ∷ ys) (c ∷ cs) zero p q h = refl
 place_in (x ∷ xs) (y ∷ ys) (c ∷ cs) (suc i) p q h = place_in xs ys cs i (omega arith) (omega arith) (omega arith)
 
+module _ (xs ys : List Float) (cs : List ℕ) (p : length ys ≡ length xs) (q : length cs ≡ length xs) (i : ℕ) (h : i < length (places_in xs ys cs)) where
+  pub column_lt : i < length xs
+  column_lt = let e = length_places_in xs ys cs p q in omega arith
+
+  pub at_place : record { x = get_or xs i nan; y = get_or ys i nan } ≡ (place_at (places_in xs ys cs) i).at
+  at_place = ap (λ (a : Place). a.at) (sym (place_in xs ys cs i p q column_lt))
+
+  pub count_place : get_or cs i 0 ≡ (place_at (places_in xs ys cs) i).count
+  count_place = ap (λ (a : Place). a.count) (sym (place_in xs ys cs i p q column_lt))
+
 -- A cell of the table, by the code's three ways.
-module _ (dist : Metric) (r2 : Float) (xs ys : List Float) (cs : List ℕ) (i j : ℕ) where
-  abbrev W : ℕ → ℕ → Float
-  W = weight dist r2 (places_in xs ys cs)
+module _ (dist : Metric) (r2 : Float) (ps : List Place) (i j : ℕ) where
+  pub cell_same : i ≡ j → zero64 ≡ weight dist r2 ps i j
+  cell_same e = sym (subst (λ (z : ℕ). weight dist r2 ps i z ≡ zero64) e (weight_self dist r2 ps i))
 
-  pub cell_same : i ≡ j → zero64 ≡ W i j
-  cell_same e = sym (subst (λ (z : ℕ). W i z ≡ zero64) e (weight_self dist r2 (places_in xs ys cs) i))
-
-  pub cell_pair : {w : Float} → length ys ≡ length xs → length cs ≡ length xs → i < length xs → j < length xs → i ≤ j → (i ≡ j → ⊥)
-      → w ≡ cond (le (dist (record { x = get_or xs i nan; y = get_or ys i nan }) (record { x = get_or xs j nan; y = get_or ys j nan })) r2)
-      (whole64 (max (get_or cs i 0) (get_or cs j 0))) zero64
-      → w ≡ W i j
-  cell_pair p q h k l d e =
-      let a = place_in xs ys cs i p q h in
-      let b = place_in xs ys cs j p q k in
-      let before : i < j = let n : i ≢ j = d in omega arith in
-      e ∙ sym (weight_pair dist r2 (places_in xs ys cs) i j before ∙ rw (a, b))
+  pub cell_pair : {w : Float} {p q : Point} {c d : ℕ} → p ≡ (place_at ps i).at → q ≡ (place_at ps j).at → c ≡ (place_at ps i).count → d ≡ (place_at ps j).count → i ≤ j → (i ≡ j → ⊥)
+      → w ≡ cond (le (dist p q) r2) (whole64 (max c d)) zero64 → w ≡ weight dist r2 ps i j
+  cell_pair f g h k l n e =
+      let before : i < j = let m : i ≢ j = n in omega arith in
+      e ∙ rw (f, g, h, k) (sym (weight_pair dist r2 ps i j before))
 
 -- `pair_weight`, by its two ways.
 module _ (dist : Metric) (p q : Point) (c d : ℕ) (r2 : Float) {x : Float} (e : x ≡ dist p q) where

@@ -1,30 +1,23 @@
--- How a search for a place goes on and ends.
-use mathlib.Core.Path.{◌≡◌, ◌∙◌}
-use mathlib.Core.Bool.{Bool, true, false, cond}
+-- What a search for a place answers.
+use mathlib.Core.Path.{◌≡◌, refl, ◌∙◌}
+use mathlib.Core.Bool.{Bool, true, false, not, cond}
 use mathlib.Core.List.{List, [], ◌∷◌}
 use Prim.Native.Nat.{ℕ, suc, ◌+◌, ◌<◌, ◌≤◌}
-use native.Mathlib.Numerals.{add-one}
 use native.Mathlib.Decide.{dec_lt}
 use native.Mathlib.Omega.{arith}
+use lib.Dec.{ltb}
 use borrow.Author.Tests.{lt-ltb, le-ltb}
-use lib.ListN.{length, get_or, drop, drop_of_length-le}
-use lib.Seq.{drop-cons}
-use lib.Ieee.{Float, nan}
-use Rattle.std.specs.Prelude.{Some, None}
+use lib.ListN.{length}
+use lib.Ieee.{Float}
+use Rattle.std.specs.Prelude.{Option, Some, None}
+use Rattle.std.specs.List.{position_or_len, zip}
+use Rattle.std.proofs.lemmas.Slice.Zip.{length-zip}
 use Rattle.distance.specs.declared.Point.{Point}
 use Rattle.neighbors.specs.Places.{Place, same_place, place_of, places_in}
 use Rattle.neighbors.specs.StepsPlaces.{place_found, PlaceFound}
 use Rattle.neighbors.proofs.Sighted.{length_places_in}
 
 -- ---- what `place_found` answers
-
-found_at : (ps : List Place) (m : Point) (i : ℕ) → place_of ps m ≡ i → i < length ps → Some i ≡ place_found ps m
-unfolding place_found
-found_at ps m i e h = rw (e, lt-ltb i (length ps) h)
-
-found_none : (ps : List Place) (m : Point) → length ps ≤ place_of ps m → None ≡ place_found ps m
-unfolding place_found
-found_none ps m h = rw (le-ltb (place_of ps m) (length ps) h)
 
 pub found_some : (ps : List Place) (m : Point) (i : ℕ) → Some i ≡ place_found ps m → (i ≡ place_of ps m) × (i < length ps)
 unfolding place_found
@@ -52,41 +45,26 @@ place_le (p ∷ ps) m = go (same_place p.at m) (place_le ps m)
     go true h = omega arith
     go false h = omega arith
 
--- ---- the loop
+-- ---- the search in two columns
 
--- The search stands at i where the places before it are not m's.
-unfoldable pub Reached : List Float → List Float → Point → ℕ → Type 0
-Reached xs ys m i = (cs : List ℕ) → length cs ≡ length xs → place_of (places_in xs ys cs) m ≡ i + place_of (places_in (drop i xs) (drop i ys) (drop i cs)) m
+module _ (m : Point) where
+  abbrev pub is_at : Float × Float → Bool
+  is_at p = same_place (record { x = p.0; y = p.1 }) m
 
-pub search_start : (xs ys : List Float) (m : Point) → Reached xs ys m 0
-unfolding Reached
-search_start xs ys m cs q = omega arith
+  place_of_pairs : (xs ys : List Float) (cs : List ℕ) → length ys ≡ length xs → length cs ≡ length xs → place_of (places_in xs ys cs) m ≡ position_or_len is_at (zip xs ys)
+  unfolding place_of places_in
+  place_of_pairs [] ys cs p q = refl
+  place_of_pairs (x ∷ xs) [] cs p q = absurd (omega arith)
+  place_of_pairs (x ∷ xs) (y ∷ ys) [] p q = absurd (omega arith)
+  place_of_pairs (x ∷ xs) (y ∷ ys) (c ∷ cs) p q = go (is_at (x, y)) (place_of_pairs xs ys cs (omega arith) (omega arith))
+    where
+      go : (b : Bool) → place_of (places_in xs ys cs) m ≡ position_or_len is_at (zip xs ys) → cond b 0 (suc (place_of (places_in xs ys cs) m)) ≡ cond (not b) (1 + position_or_len is_at (zip xs ys)) 0
+      go true e = refl
+      go false e = omega arith
 
-pub search_hit : (xs ys : List Float) (m : Point) (i : ℕ) {t : Bool} → Reached xs ys m i → i < length xs → length ys ≡ length xs
-    → t ≡ same_place (record { x = get_or xs i nan; y = get_or ys i nan }) m → t ≡ true → PlaceFound xs ys m (Some i)
-unfolding Reached place_of places_in
-search_hit xs ys m i r h p e t cs q =
-    let z : place_of (places_in (drop i xs) (drop i ys) (drop i cs)) m ≡ 0 = rw (
-      drop-cons xs i nan h,
-      drop-cons ys i nan (omega arith),
-      drop-cons cs i 0 (omega arith),
-      ← e,
-      t,
-    ) in
-    found_at (places_in xs ys cs) m i (omega (arith, r cs q)) (omega (arith, length_places_in xs ys cs p q))
-
-pub search_on : (xs ys : List Float) (m : Point) (i : ℕ) {t : Bool} → Reached xs ys m i → i < length xs → length ys ≡ length xs
-    → t ≡ same_place (record { x = get_or xs i nan; y = get_or ys i nan }) m → t ≡ false → Reached xs ys m (i + 1)
-unfolding Reached place_of places_in
-search_on xs ys m i r h p e t cs q =
-    let z : place_of (places_in (drop i xs) (drop i ys) (drop i cs)) m ≡ suc (place_of (places_in (drop (i + 1) xs) (drop (i + 1) ys) (drop (i + 1) cs)) m) =
-    rw (add-one i, drop-cons xs i nan h, drop-cons ys i nan (omega arith), drop-cons cs i 0 (omega arith), ← e, t) in
-    omega (arith, r cs q)
-
-pub search_end : (xs ys : List Float) (m : Point) (i : ℕ) → Reached xs ys m i → length ys ≡ length xs → length xs ≤ i → PlaceFound xs ys m None
-unfolding Reached place_of places_in
-search_end xs ys m i r p h cs q =
-    let z : place_of (places_in (drop i xs) (drop i ys) (drop i cs)) m ≡ 0 = rw (drop_of_length-le xs {i = i} h) in
-    found_none (places_in xs ys cs) m (omega (arith, r cs q, length_places_in xs ys cs p q))
-
-pub ruleset search_steps = (search_start, search_hit, search_on, search_end)
+  pub pairs_found : (xs ys : List Float) {r : Option ℕ} → length ys ≡ length xs
+      → r ≡ cond (ltb (position_or_len is_at (zip xs ys)) (length (zip xs ys))) (Some (position_or_len is_at (zip xs ys))) None → PlaceFound xs ys m r
+  unfolding place_found
+  pairs_found xs ys p e cs q =
+      let l : length (places_in xs ys cs) ≡ length (zip xs ys) = omega (arith, length_places_in xs ys cs p q, length-zip xs ys) in
+      rw (place_of_pairs xs ys cs p q, l) e

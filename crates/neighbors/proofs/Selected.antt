@@ -1,37 +1,37 @@
 -- How the search for nodes goes on and ends.
 use mathlib.Core.Path.{◌≡◌, refl, sym, ap, ◌∙◌}
-use mathlib.Core.Bool.{Bool, true, false}
+use mathlib.Core.Bool.{Bool, true, false, ◌||◌}
 use mathlib.Core.List.{List, [], ◌∷◌, ◌++◌, append_assoc, append-nil}
-use Prim.Native.Nat.{ℕ, suc, ◌+◌, ◌-◌, ◌<◌, ◌≤◌}
+use Prim.Native.Nat.{ℕ, zero, suc, ◌+◌, ◌-◌, ◌<◌, ◌≤◌}
 use native.Mathlib.Nat.{sub-zero}
 use native.Mathlib.Numerals.{add-one}
 use native.Mathlib.Omega.{arith}
-use lib.ListN.{length, set, length-append}
+use lib.ListN.{length, get_or, take, drop, set, length-append}
+use lib.Seq.{drop-cons}
+use lib.Ieee.{Float, nan}
+use Rattle.std.specs.List.{list_any}
 use Rattle.lists.specs.Lists.{from, upto, any_of, select, overlay}
 use Rattle.lists.proofs.Overlay.{overlay_set}
 
--- ---- some number below n
+-- ---- some item of a row
 
-pub any_start : (f : ℕ → Bool) (n : ℕ) → any_of f (upto n) ≡ any_of f (from 0 (n - 0))
+any_from : (f : Float → Bool) (t : List Float) (a k j : ℕ) → a + j + k ≤ length t → list_any f (take k (drop (a + j) t)) ≡ any_of (λ i. f (get_or t (a + i) nan)) (from j k)
+unfolding any_of from
+any_from f t a zero j h = refl
+any_from f t a (suc k) j h =
+    let e : a + suc j ≡ suc (a + j) = omega arith in
+    rw (drop-cons t (a + j) nan (omega arith)) (ap (λ (b : Bool). f (get_or t (a + j) nan) || b) (rw e at (any_from f t a k (suc j) (omega arith))))
+
+-- Whether f holds of one of the n items of a list from item a on.
+pub any_row : (f : Float → Bool) (t : List Float) (a n : ℕ) → a + n ≤ length t → list_any f (take (a + n - a) (drop a t)) ≡ any_of (λ i. f (get_or t (a + i) nan)) (upto n)
 unfolding upto
-any_start f n = rw sub-zero
+any_row f t a n h =
+    let e : a + n - a ≡ n = omega arith in
+    let z : a + 0 ≡ a = omega arith in
+    rw e (rw z at (any_from f t a n 0 (omega arith)))
 
 left_over : (n j : ℕ) → j < n → n - j ≡ suc (n - (j + 1))
 left_over n j h = omega arith
-
-pub any_hit : (f : ℕ → Bool) (n j : ℕ) {t : Bool} → t ≡ any_of f (from j (n - j)) → j < n → f j ≡ true → true ≡ t
-unfolding any_of from
-any_hit f n j e h p = sym (e ∙ rw (left_over n j h, p))
-
-pub any_on : (f : ℕ → Bool) (n j : ℕ) {t : Bool} → t ≡ any_of f (from j (n - j)) → j < n → f j ≡ false → t ≡ any_of f (from (j + 1) (n - (j + 1)))
-unfolding any_of from
-any_on f n j e h p = e ∙ rw (left_over n j h, p, add-one j)
-
-pub any_end : (f : ℕ → Bool) (n j : ℕ) {t : Bool} → t ≡ any_of f (from j (n - j)) → n ≤ j → false ≡ t
-unfolding any_of from
-any_end f n j e h = let z : n - j ≡ 0 = omega arith in sym (e ∙ rw z)
-
-pub ruleset any_steps = (any_start, any_hit, any_on, any_end)
 
 -- ---- the numbers below n: of those below i, the found ones stand in front of l, and behind them what l₀ holds
 

@@ -9,7 +9,7 @@ use native.Mathlib.Omega.{arith}
 use lib.ListN.{length}
 use Rattle.distance.specs.declared.Point.{Point}
 use Rattle.neighbors.specs.Places.{Place, same_place, place_of, sighted, sighted_all, places}
-use Rattle.neighbors.proofs.SameBits.{same_self}
+use Rattle.neighbors.proofs.SamePlace.{same_self}
 use Rattle.lists.proofs.Items.{All, Among, among_left, among_right}
 
 -- A median that has a place keeps its number.

@@ -5,7 +5,7 @@ use Rattle.std.specs.Float.{nan}
 use Rattle.std.specs.Float.Ieee.{lt}
 use Rattle.lists.specs.Lists.{upto, any_of, select}
 use Rattle.float.specs.Binary64.{zero64}
-use Rattle.neighbors.specs.Places.{places_in}
+use Rattle.neighbors.specs.Places.{Place}
 use Rattle.distance.specs.Distance.{Metric}
 use Rattle.neighbors.specs.Links.{weight}
 
@@ -21,12 +21,10 @@ has_weight n t i = any_of (λ j. lt zero64 (get_or t (i * n + j) nan)) (upto n)
 unfoldable pub rows_with_weight : ℕ → List Float → List ℕ
 rows_with_weight n t = select (has_weight n t) (upto n)
 
--- The slices of a table of the weights of all pairs of at most 512 places.
-pub record Square (xs ys : List Float) (cs : List ℕ) (t : List Float) : Type 0 where
-  pub ordinates : length ys ≡ length xs
-  pub counts : length cs ≡ length xs
-  pub cells : length t ≡ length xs * length xs
-  pub few : length xs ≤ 512
+-- A table for the weights of all pairs of at most 512 places.
+pub record Square (ps : List Place) (t : List Float) : Type 0 where
+  pub cells : length t ≡ length ps * length ps
+  pub few : length ps ≤ 512
 
 -- Row numbers below n, each at least its own place in the list, as in a list that rises.
 pub record RowNumbers (n : ℕ) (ns : List ℕ) : Type 0 where
@@ -43,10 +41,10 @@ pub record Compacted (n : ℕ) (ns : List ℕ) (t s : List Float) (k : ℕ) : Ty
 abbrev pub RowMoved : ℕ → List ℕ → ℕ → List Float → List Float → Type 0
 RowMoved n ns u s s' = (t : List Float) → Compacted n ns t s (u * length ns) → Compacted n ns t s' ((u + 1) * length ns)
 
--- The first k cells are the weights of the pairs of places that three slices hold.
-abbrev pub Weighted : Metric → Float → List Float → List Float → List ℕ → List Float → ℕ → Type 0
-Weighted dist r2 xs ys cs t k = Tabled (weight dist r2 (places_in xs ys cs)) (length xs) t k
+-- The first k cells are the weights of the pairs of places.
+abbrev pub Weighted : Metric → Float → List Place → List Float → ℕ → Type 0
+Weighted dist r2 ps t k = Tabled (weight dist r2 ps) (length ps) t k
 
--- The slices of a table of weights whose rows before row i are filled.
-abbrev pub RowsFilled : Metric → Float → List Float → List Float → List ℕ → List Float → ℕ → Type 0
-RowsFilled dist r2 xs ys cs t i = Square xs ys cs t × (i < length xs) × Weighted dist r2 xs ys cs t (i * length xs)
+-- A table of weights whose rows before row i are filled.
+abbrev pub RowsFilled : Metric → Float → List Place → List Float → ℕ → Type 0
+RowsFilled dist r2 ps t i = Square ps t × (i < length ps) × Weighted dist r2 ps t (i * length ps)

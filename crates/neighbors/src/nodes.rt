@@ -1,23 +1,21 @@
 // The nodes: the places with a link, in place order, and the table of their weights.
+// Kept as it is: a table and how many columns it has, as two parameters. A struct of both is no plainer: `compact` and `compact_row` write the
+// table, so that each of their contracts would have to add that the struct still holds the slice that it held, and they leave a table of as
+// many columns as there are nodes in front, so that the struct's number would then be wrong.
 ghost use Rattle.std.specs.Prelude.{◌≡◌, ◌*◌, ◌<◌, ◌≤◌, length};
 ghost use Rattle.lists.specs.Lists.{overlay};
 ghost use Rattle.neighbors.specs.StepsTables.{has_weight, rows_with_weight, RowNumbers, Compacted, RowMoved};
 
 // Whether row i of a table of n columns has a weight above 0.
-#[tactic(auto, using(crate::proofs::Selected::any_steps), unfolding(crate::specs::StepsTables::has_weight))]
 fn has_weight(table: &[f64], n: usize, i: usize) -> bool
     requires { (n ≤ 512) × (i < n) × (n * n ≤ length table.now) }
     ensures { result ≡ has_weight n table.now i }
 {
-    for j in 0..n {
-        if 0.0 < table[i * n + j] {
-            return true;
-        }
-    }
-    false
+    table[i * n..i * n + n].iter().any(|&w| 0.0 < w)
 }
 
 // Writes the rows with a weight above 0 to the front of the slice, and tells how many there are.
+// Kept as it is: the rows found are counted beside the loop, since there is no heap to collect them in: they go to a lent slice.
 #[tactic(auto, using(crate::proofs::Selected::select_steps))]
 pub fn find_nodes(table: &[f64], n: usize, nodes: &mut [u32]) -> usize
     requires { (n ≤ 512) × (n * n ≤ length table.now) × (n ≤ length nodes.old) }

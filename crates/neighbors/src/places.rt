@@ -1,48 +1,84 @@
 // Distinct medians: one place if both bit patterns agree, numbered by first sight.
-ghost use Rattle.std.specs.Prelude.{◌≡◌, ◌≤◌, length};
-ghost use Rattle.neighbors.specs.Places.{same_place};
+ghost use Rattle.std.specs.Prelude.{◌≡◌, ◌<◌, ◌≤◌, length};
+ghost use Rattle.neighbors.specs.Places.{same_place, place_at};
 ghost use Rattle.neighbors.specs.StepsPlaces.{PlaceFound, PlacesInFront, OneMoreLaid, DistinctLaid};
-ghost use Rattle.float.specs.Binary64.{same_bits};
 
 use distance::Point;
+use std::marker::Model;
 
-// Whether the bit patterns agree.
-#[tactic(auto, using(crate::proofs::SameBits::nan_left, crate::proofs::SameBits::nan_right), unfolding(float::specs::Binary64::same_bits))]
-fn same_bits(a: f64, b: f64) -> bool
-    ensures { result ≡ same_bits a b }
-{
-    if a.is_nan() {
-        b.is_nan()
-    } else {
-        !b.is_nan() && a.to_bits() == b.to_bits()
+// Places in columns of one length that are only read: place i is at xs[i], ys[i] and has counts[i] stays. Contracts see the list of places.
+// Kept as it is: three columns, and no slice of a struct: the rules' slices hold numbers, x and y apart (docs/DECISIONS.md, "Forms"). No
+// comparison is derived: it would read the fields, which the list of places does not give back.
+#[derive(Drop)]
+pub struct Places<'a> {
+    pub xs: &'a [f64],
+    pub ys: &'a [f64],
+    pub counts: &'a [u32],
+}
+
+impl<'a> Model for Places<'a> {
+    ghost use Rattle.std.specs.Prelude.{◌≡◌, List, length};
+    ghost use Rattle.neighbors.specs.Places.{Place, places_in};
+
+    ghost Value = { List Place };
+
+    ghost view = { λ a. places_in a.xs.now a.ys.now a.counts.now };
+
+    ghost invariant = { λ a. (length a.ys.now ≡ length a.xs.now) × (length a.counts.now ≡ length a.xs.now) };
+}
+
+impl<'a> Places<'a> {
+    #[tactic(auto, using(crate::proofs::Sighted::length_places_in))]
+    pub fn len(&self) -> usize
+        ensures { result ≡ length self.now }
+    {
+        self.xs.len()
+    }
+
+    // Where place i is.
+    #[tactic(auto, using(crate::proofs::Linked::column_lt, crate::proofs::Linked::at_place))]
+    pub(crate) fn at(&self, i: usize) -> Point
+        requires { i < length self.now }
+        ensures { result ≡ (place_at self.now i).at }
+    {
+        let (xs, ys) = (self.xs, self.ys);
+        Point { x: xs[i], y: ys[i] }
+    }
+
+    // How many stays are at place i.
+    #[tactic(auto, using(crate::proofs::Linked::column_lt, crate::proofs::Linked::count_place))]
+    pub(crate) fn count(&self, i: usize) -> u32
+        requires { i < length self.now }
+        ensures { result ≡ (place_at self.now i).count }
+    {
+        let counts = self.counts;
+        counts[i]
     }
 }
 
 // Whether two medians are one place.
+// Kept as it is: bits compared by hand. The rules tell 0.0 from -0.0; a derived == on `Point` compares floats, and takes the two for one place.
 #[tactic(auto, unfolding(crate::specs::Places::same_place))]
 pub fn same_place(a: Point, b: Point) -> bool
     ensures { result ≡ same_place a b }
 {
-    same_bits(a.x, b.x) && same_bits(a.y, b.y)
+    float::same_bits(a.x, b.x) && float::same_bits(a.y, b.y)
 }
 
 // The number of the place of m, if it has one.
-#[tactic(auto, using(crate::proofs::Search::search_steps))]
 pub fn place_of(xs: &[f64], ys: &[f64], m: Point) -> Option<usize>
     requires { length ys.now ≡ length xs.now }
     ensures { PlaceFound xs.now ys.now m result }
 {
-    for i in 0..xs.len() {
-        let p = Point { x: xs[i], y: ys[i] };
-        if same_place(p, m) {
-            return Some(i);
-        }
-    }
-    None
+    xs.iter()
+        .zip(ys)
+        .position(|(&x, &y)| same_place(Point { x, y }, m))
 }
 
 // One more stay with the median m, where n places stand in front: how many there are then. Where that is one more than there is room for,
 // the answer is None, and nothing is written.
+// Kept as it is: here and in `distinct` the three columns are written. A struct of `&mut` slices is no plainer: each contract would have to
+// add that every field still holds the slice that it held, which three parameters of their own say by themselves.
 fn sight(xs: &mut [f64], ys: &mut [f64], counts: &mut [u32], n: usize, m: Point) -> Option<usize>
     requires { PlacesInFront xs.old ys.old counts.old n }
     ensures { OneMoreLaid xs.old ys.old counts.old n m result xs.new ys.new counts.new }

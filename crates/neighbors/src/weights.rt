@@ -3,10 +3,10 @@ ghost use Rattle.std.specs.Prelude.{◌≡◌, ◌+◌, ◌*◌, ◌<◌, max, c
 ghost use Rattle.std.specs.Float.Ieee.{le};
 ghost use Rattle.float.specs.Binary64.{whole64, zero64};
 ghost use Rattle.distance.specs.Distance.{euclidean};
-ghost use Rattle.neighbors.specs.Places.{places_in};
 ghost use Rattle.neighbors.specs.Links.{weight};
 ghost use Rattle.neighbors.specs.StepsTables.{Square, Weighted, RowsFilled};
 
+use crate::places::Places;
 use distance::Point;
 
 // The weight between two places, the one of lower number first.
@@ -21,43 +21,46 @@ fn pair_weight(p: Point, q: Point, c: u32, d: u32, r2: f64) -> f64
     }
 }
 
-// Kept as it is: here and below xs, ys and counts are columns that the caller lends, and lent slices stay parameters of their own.
 // Cell (i, j) of the table whose earlier rows are filled.
 #[tactic(auto, using(crate::proofs::Cells::row_before, crate::proofs::Cells::tabled_at, crate::proofs::Linked::weight_sym, crate::proofs::Linked::cell_same, crate::proofs::Linked::cell_pair))]
-fn cell(xs: &[f64], ys: &[f64], counts: &[u32], r2: f64, table: &[f64], i: usize, j: usize) -> f64
-    requires { (j < length xs.now) × RowsFilled euclidean r2 xs.now ys.now counts.now table.now i }
-    ensures { result ≡ weight euclidean r2 (places_in xs.now ys.now counts.now) i j }
+fn cell(places: &Places, r2: f64, table: &[f64], i: usize, j: usize) -> f64
+    requires { (j < length places.now) × RowsFilled euclidean r2 places.now table.now i }
+    ensures { result ≡ weight euclidean r2 places.now i j }
 {
     if j < i {
-        return table[j * xs.len() + i];
+        return table[j * places.len() + i];
     }
     if i == j {
         return 0.0;
     }
-    let p = Point { x: xs[i], y: ys[i] };
-    let q = Point { x: xs[j], y: ys[j] };
-    pair_weight(p, q, counts[i], counts[j], r2)
+    pair_weight(
+        places.at(i),
+        places.at(j),
+        places.count(i),
+        places.count(j),
+        r2,
+    )
 }
 
 // Fills row i.
 #[tactic(auto, using(crate::proofs::Cells::tabled_less, crate::proofs::Cells::tabled_on, crate::proofs::Cells::tabled_row, crate::proofs::Cells::square_as))]
-fn fill_row(xs: &[f64], ys: &[f64], counts: &[u32], r2: f64, table: &mut [f64], i: usize)
-    requires { RowsFilled euclidean r2 xs.now ys.now counts.now table.old i }
-    ensures { Weighted euclidean r2 xs.now ys.now counts.now table.new ((i + 1) * length xs.now) }
+fn fill_row(places: &Places, r2: f64, table: &mut [f64], i: usize)
+    requires { RowsFilled euclidean r2 places.now table.old i }
+    ensures { Weighted euclidean r2 places.now table.new ((i + 1) * length places.now) }
 {
-    let n = xs.len();
+    let n = places.len();
     for j in 0..n {
-        table[i * n + j] = cell(xs, ys, counts, r2, table, i, j);
+        table[i * n + j] = cell(places, r2, table, i, j);
     }
 }
 
 // Fills the table of weights of all pairs of places, with one distance for each pair.
 #[tactic(auto, using(crate::proofs::Cells::tabled_none, crate::proofs::Cells::tabled_end, crate::proofs::Cells::square_as))]
-pub fn fill_table(xs: &[f64], ys: &[f64], counts: &[u32], r2: f64, table: &mut [f64])
-    requires { Square xs.now ys.now counts.now table.old }
-    ensures { Weighted euclidean r2 xs.now ys.now counts.now table.new (length xs.now * length xs.now) }
+pub fn fill_table(places: &Places, r2: f64, table: &mut [f64])
+    requires { Square places.now table.old }
+    ensures { Weighted euclidean r2 places.now table.new (length places.now * length places.now) }
 {
-    for i in 0..xs.len() {
-        fill_row(xs, ys, counts, r2, table, i);
+    for i in 0..places.len() {
+        fill_row(places, r2, table, i);
     }
 }

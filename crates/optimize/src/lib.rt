@@ -107,23 +107,36 @@ fn run_rounds(net: &Network, r: &mut RunState, order: &mut [u32])
     }
 }
 
-// Puts each node in a group of its own, before any sum is made.
-fn scatter(s: &mut MapState)
-    ensures { (s.new.partition ≡ upto (length s.old.partition)) × (length s.old.partition ≤ 512) }
+// Each of n nodes in a group of its own, before any sum is made.
+// Kept as it is: arrays of fixed size, since the project takes no heap (docs/DECISIONS.md, "No heap").
+fn scattered(n: usize) -> MapState
+    requires { n ≤ 512 }
+    ensures { result.partition ≡ upto n }
 {
-    rng::fill(&mut s.partition);
-    rng::fill(&mut s.first);
+    let mut nodes = [0; 512];
+    rng::fill(&mut nodes);
+    MapState {
+        n,
+        partition: nodes,
+        first: nodes,
+        exits: [0.0; 512],
+        strengths: [0.0; 512],
+        q: 0.0,
+    }
 }
 
-// A trial from the generator's state `rng`, left in `r`: what that held before is not read, but for the number of nodes.
-pub fn optimize_partition(net: &Network, r: &mut RunState, order: &mut [u32], rng: u64)
-    requires { (Fits net.now r.old.state) × (length order.old ≡ length net.now.strength) }
-    ensures { TrialEnds net.now rng order.new r.new }
+// A trial from the generator's state `rng`.
+pub fn optimize_partition(net: &Network, order: &mut [u32], rng: u64) -> RunState
+    requires { length order.old ≡ length net.now.strength }
+    ensures { TrialEnds net.now rng order.new result }
 {
-    scatter(&mut r.state);
+    let mut r = RunState {
+        state: scattered(net.strength().len()),
+        rng,
+        rounds: 0,
+        moved: true,
+    };
     codelength::from_partition(net, &mut r.state);
-    r.rng = rng;
-    r.rounds = 0;
-    r.moved = true;
-    run_rounds(net, r, order);
+    run_rounds(net, &mut r, order);
+    r
 }

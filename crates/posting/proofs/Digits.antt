@@ -10,8 +10,8 @@ use lib.Dec.{ltb}
 use lib.ListN.{length, length-append, replicate}
 use Rattle.text.specs.Bytes.{space}
 use Rattle.print.specs.Lines.{digits, decimal}
-use Rattle.print.specs.Steps.{Out, push, pushes}
-use Rattle.print.proofs.Pushes.{and_then, one}
+use Rattle.print.specs.Steps.{Out, pushes}
+use Rattle.print.proofs.Pushes.{and_then}
 -- Named so that the examples are checked before these lemmas.
 use Rattle.posting.specs.Examples
 use Rattle.posting.specs.Sheet.{right_aligned}
@@ -90,16 +90,16 @@ pub front_none : (o : Out) (w n : ℕ) → w ≡ 0 → o ≡ pushes o (front_col
 unfolding front_columns pushes
 front_none o w n h = rw h
 
-pub front_more : (o o₁ o₂ : Out) (w n : ℕ) → (w ≡ 0 → ⊥) → o₁ ≡ pushes o (front_columns (w - 1) (n / 10)) → o₂ ≡ push o₁ (front_digit n) → o₂ ≡ pushes o (front_columns w n)
+pub front_more : (o o₁ o₂ : Out) (w n : ℕ) → (w ≡ 0 → ⊥) → o₁ ≡ pushes o (front_columns (w - 1) (n / 10)) → o₂ ≡ pushes o₁ (front_digit n ∷ []) → o₂ ≡ pushes o (front_columns w n)
 unfolding front_columns
 front_more o o₁ o₂ zero n z p q = absurd (z refl)
 front_more o o₁ o₂ (suc w) n z p q =
     let e : suc w - 1 ≡ w = omega arith in
-    and_then o o₁ o₂ (front_columns w (n / 10)) (front_digit n ∷ []) (rw e at p) (one o₁ o₂ (front_digit n) q)
+    and_then o o₁ o₂ (front_columns w (n / 10)) (front_digit n ∷ []) (rw e at p) q
 
-pub number_put : (o o₁ o₂ : Out) (w n : ℕ) → 1 ≤ w → w ≤ 20 → n < 10 ^ w → o₁ ≡ pushes o (front_columns (w - 1) (n / 10)) → o₂ ≡ push o₁ (last_digit n)
+pub number_put : (o o₁ o₂ : Out) (w n : ℕ) → 1 ≤ w → w ≤ 20 → n < 10 ^ w → o₁ ≡ pushes o (front_columns (w - 1) (n / 10)) → o₂ ≡ pushes o₁ (last_digit n ∷ [])
     → o₂ ≡ pushes o (right_aligned w (decimal n))
 number_put o o₁ o₂ zero n a b h p q = absurd (omega arith)
 number_put o o₁ o₂ (suc w) n a b h p q =
     let e : suc w - 1 ≡ w = omega arith in
-    rw (aligned w n h (omega arith)) (and_then o o₁ o₂ (front_columns w (n / 10)) (last_digit n ∷ []) (rw e at p) (one o₁ o₂ (last_digit n) q))
+    rw (aligned w n h (omega arith)) (and_then o o₁ o₂ (front_columns w (n / 10)) (last_digit n ∷ []) (rw e at p) q)

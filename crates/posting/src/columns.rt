@@ -1,15 +1,13 @@
-// Numbers and labels at the right end of their columns, and the lines of the sheet, written into a slice from a place on; past its end nothing is written.
-// Each function hands back the place after what it wrote.
-// Kept as it is: slice and place are two parameters, as of `push` in crate `print`, where the reason is written.
+// Numbers and labels at the right end of their columns, and the lines of the sheet, written one behind the other.
 ghost use Rattle.std.specs.Prelude.{◌≡◌, ◌<◌, ◌≤◌, ◌^◌, true};
 ghost use Rattle.print.specs.Lines.{decimal, label_text};
-ghost use Rattle.print.specs.Steps.{out as Steps·out, pushes};
+ghost use Rattle.print.specs.Steps.{Wrote};
 ghost use mathlib.Core.List.{flatten};
 ghost use Rattle.posting.specs.Sheet.{entry, right_aligned, entry_line};
 ghost use Rattle.posting.specs.Posted.{in_column};
 ghost use Rattle.posting.specs.Steps.{last_digit, front_digit, front_columns, lines_at, Within};
 
-use print::bytes::{push, push_all};
+use print::bytes::Output;
 
 fn last_digit(n: u64) -> u8
     ensures { result ≡ last_digit n }
@@ -27,60 +25,58 @@ fn front_digit(n: u64) -> u8
 
 // The w columns in front of others, n being the number up to the last of them.
 #[tactic(auto, using(crate::proofs::Digits::front_none, crate::proofs::Digits::front_more))]
-fn put_front(out: &mut [u8], at: usize, w: u32, n: u64) -> usize
-    ensures { Steps·out out.new result ≡ pushes (Steps·out out.old at) (front_columns w n) }
+fn put_front(out: &mut Output, w: u32, n: u64)
+    ensures { Wrote out.old out.new (front_columns w n) }
 {
     if w == 0 {
-        return at;
+        return;
     }
-    let k = put_front(out, at, w - 1, n / 10);
-    push(out, k, front_digit(n))
+    put_front(out, w - 1, n / 10);
+    out.push(front_digit(n));
 }
 
 // A number in w columns.
+// Kept as it is: right-aligned by hand, since `write!`, as `{:>3}`, promises the bytes only where all have room, and here a short slice gets the first of them.
 #[tactic(auto, using(crate::proofs::Digits::number_put))]
-fn put_number(out: &mut [u8], at: usize, w: u32, n: u64) -> usize
+fn put_number(out: &mut Output, w: u32, n: u64)
     requires { (1 ≤ w) × (w ≤ 20) × (n < 10 ^ w) }
-    ensures { Steps·out out.new result ≡ pushes (Steps·out out.old at) (right_aligned w (decimal n)) }
+    ensures { Wrote out.old out.new (right_aligned w (decimal n)) }
 {
-    let k = put_front(out, at, w - 1, n / 10);
-    push(out, k, last_digit(n))
+    put_front(out, w - 1, n / 10);
+    out.push(last_digit(n));
 }
 
 // A label in 3 columns.
-fn put_label(out: &mut [u8], at: usize, l: i32) -> usize
+fn put_label(out: &mut Output, l: i32)
     requires { in_column l ≡ true }
-    ensures { Steps·out out.new result ≡ pushes (Steps·out out.old at) (right_aligned 3 (label_text l)) }
+    ensures { Wrote out.old out.new (right_aligned 3 (label_text l)) }
 {
     match u64::try_from(l) {
-        Ok(n) => put_number(out, at, 3, n),
-        Err(_) => push_all(out, at, b" -1"),
+        Ok(n) => put_number(out, 3, n),
+        Err(_) => out.push_all(b" -1"),
     }
 }
 
 // The line of a fix.
-#[tactic(auto, using(print::proofs::Pushes::and_then, print::proofs::Pushes::and_push, print::proofs::Pushes::one), unfolding(crate::specs::Sheet::entry_line))]
-fn put_line(out: &mut [u8], at: usize, t: u64, f: u64, l: i32) -> usize
+fn put_line(out: &mut Output, t: u64, f: u64, l: i32)
     requires { Within t f l }
-    ensures { Steps·out out.new result ≡ pushes (Steps·out out.old at) (entry_line (entry t f l)) }
+    ensures { Wrote out.old out.new (entry_line (entry t f l)) }
 {
-    let a = put_number(out, at, 3, t);
-    let b = push(out, a, b' ');
-    let c = put_number(out, b, 5, f);
-    let d = push(out, c, b' ');
-    let e = put_label(out, d, l);
-    push(out, e, b'\n')
+    put_number(out, 3, t);
+    out.push(b' ');
+    put_number(out, 5, f);
+    out.push(b' ');
+    put_label(out, l);
+    out.push(b'\n');
 }
 
 // The line of fix i of the sheet, below a heading where it is the first of a page.
-#[tactic(auto, using(crate::proofs::LinesFrom::within_page))]
-pub fn put_fix(out: &mut [u8], at: usize, i: usize, t: u64, f: u64, l: i32) -> usize
+pub fn put_fix(out: &mut Output, i: usize, t: u64, f: u64, l: i32)
     requires { Within t f l }
-    ensures { Steps·out out.new result ≡ pushes (Steps·out out.old at) (flatten (lines_at i (entry t f l))) }
+    ensures { Wrote out.old out.new (flatten (lines_at i (entry t f l))) }
 {
     if i % 60 == 0 {
-        let k = push_all(out, at, b"TRC   FIX LBL\n");
-        return put_line(out, k, t, f, l);
+        out.push_all(b"TRC   FIX LBL\n");
     }
-    put_line(out, at, t, f, l)
+    put_line(out, t, f, l);
 }

@@ -7,6 +7,7 @@ ghost use Rattle.posting.specs.Sheet.{sheet as Sheet·sheet, page_count};
 ghost use Rattle.posting.specs.Posted.{check_sheet, ends, post_sheet};
 ghost use Rattle.posting.specs.Steps.{SheetWithin};
 
+use print::bytes::Output;
 use settings::refusal::Refusal;
 
 mod columns;
@@ -36,11 +37,18 @@ fn check_sheet(lens: &[u32], labels: &[i32], room: usize) -> Result<(), Refusal>
 }
 
 // Writes the sheet as far as there is room, and hands back how many bytes are written. Building block: labels and lengths are checked already.
+// Kept as it is: this, `put_lines` and `print` of crate `reply` ask `SheetWithin` of the two slices, by a clause. A struct of them with that for a ghost field
+// would be made from two slices right before each call (`print` hands the same two to `print_labels`, which asks nothing), and taken apart right behind it.
 pub fn write_sheet(lens: &[u32], labels: &[i32], out: &mut [u8]) -> usize
     requires { SheetWithin lens.now labels.now }
     ensures { Writes (Sheet·sheet lens.now labels.now) out.old result out.new }
 {
-    crate::lines::put_lines(out, lens, labels)
+    let mut o = Output {
+        bytes: out,
+        used: 0,
+    };
+    crate::lines::put_lines(&mut o, lens, labels);
+    o.used
 }
 
 // The posting sheet of traces of these lengths, whose fixes have these labels, into the front of `out`: how many bytes it has, or the refusal.

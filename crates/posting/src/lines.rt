@@ -1,10 +1,12 @@
 // The lines of the sheet, trace by trace, and the check of the labels.
 ghost use Rattle.std.specs.Prelude.{◌≡◌};
 ghost use mathlib.Core.List.{flatten};
-ghost use Rattle.print.specs.Steps.{out as Steps·out, pushes};
+ghost use Rattle.print.specs.Steps.{Wrote};
 ghost use Rattle.posting.specs.Sheet.{trace_entries, entries};
 ghost use Rattle.posting.specs.Posted.{in_column, all_in_column};
 ghost use Rattle.posting.specs.Steps.{lines_from, TraceWithin, SheetWithin};
+
+use print::bytes::Output;
 
 // Whether a label is one from -1 to 511.
 fn in_column(l: i32) -> bool
@@ -20,29 +22,28 @@ pub fn all_in_column(labels: &[i32]) -> bool
 }
 
 // The lines of trace t, whose fixes have these labels; i fixes stand on the sheet before them.
-fn put_trace(out: &mut [u8], at: usize, i: usize, t: u64, labels: &[i32]) -> usize
+fn put_trace(out: &mut Output, i: usize, t: u64, labels: &[i32])
     requires { TraceWithin i t labels.now }
-    ensures { Steps·out out.new result ≡ pushes (Steps·out out.old at) (flatten (lines_from i (trace_entries t 0 labels.now))) }
+    ensures { Wrote out.old out.new (flatten (lines_from i (trace_entries t 0 labels.now))) }
 {
-    let mut k = at;
     for (f, &l) in labels.iter().enumerate() {
-        k = crate::columns::put_fix(out, k, i + f, t, f as u64, l);
+        crate::columns::put_fix(out, i + f, t, f as u64, l);
     }
-    k
 }
 
-// The lines of all traces, from the front of `out`.
+// The lines of all traces.
+// Kept as it is, beside `put_lines` of crate `print`: that one takes labels that end early and asks nothing; this one asks `SheetWithin`, and hands on how
+// many fixes stand before the trace, for the headings. One walk over a closure that writes a trace would have to ask of each call what only this one needs
+// (`TraceWithin i t part`), and to say what was written as two kinds of lines, `lines` there and `lines_from` here.
 #[tactic(auto, using(crate::proofs::LinesFrom::trace_fits))]
-pub fn put_lines(out: &mut [u8], lens: &[u32], labels: &[i32]) -> usize
+pub fn put_lines(out: &mut Output, lens: &[u32], labels: &[i32])
     requires { SheetWithin lens.now labels.now }
-    ensures { Steps·out out.new result ≡ pushes (Steps·out out.old 0) (flatten (lines_from 0 (entries 0 lens.now labels.now))) }
+    ensures { Wrote out.old out.new (flatten (lines_from 0 (entries 0 lens.now labels.now))) }
 {
-    let mut k = 0;
     let mut i = 0;
     for (t, &len) in lens.iter().enumerate() {
         let end = i + len as usize;
-        k = put_trace(out, k, i, t as u64, &labels[i..end]);
+        put_trace(out, i, t as u64, &labels[i..end]);
         i = end;
     }
-    k
 }

@@ -13,7 +13,8 @@ use Rattle.lists.proofs.Overlay.{length_overlay}
 use Rattle.text.specs.Parsed.{into}
 use Rattle.text.proofs.Columns.{into_nil, into_more}
 use Rattle.print.specs.Written.{Writes}
-use Rattle.print.specs.Steps.{Out, out, push, pushes}
+use Rattle.print.specs.declared.bytes.Output.{Output}
+use Rattle.print.specs.Steps.{Out, out, push, pushes, Wrote}
 
 module _ (l : List ℕ) where
   -- The slice l with the text t in front.
@@ -65,3 +66,7 @@ module _ (l : List ℕ) where
   writes bs l' r e =
       let w : out l' r ≡ written bs = e ∙ ap (λ (o : Out). pushes o bs) (sym nothing) ∙ written_all bs [] in
       record { bytes = ap (λ (o : Out). o.bytes) w; count = ap (λ (o : Out). o.used) w }
+
+-- What a slice holds when all is written: it is lent to o, from its start on, and has come back from o'.
+pub written_back : (o o' : Output) (bs l' : List ℕ) → o.used ≡ 0 → Wrote o o' bs → l' ≡ o'.bytes.now → Writes bs o.bytes.now o'.used l'
+written_back o o' bs l' z w e = writes o.bytes.now bs l' o'.used (ap (λ (l : List ℕ). out l o'.used) e ∙ w.written ∙ ap (λ (n : ℕ). pushes (out o.bytes.now n) bs) z)

@@ -1,6 +1,7 @@
 -- Serves the contracts of this crate's own functions; no public contract reaches it.
 -- A text written byte by byte, as the code does.
-use Rattle.std.specs.Prelude.{ℕ, ◌+◌, cond, List, [], ◌∷◌, ltb, length, set}
+use Rattle.std.specs.Prelude.{◌≡◌, ℕ, ◌+◌, cond, List, [], ◌∷◌, ltb, length, set}
+use Rattle.print.specs.declared.bytes.Output.{Output}
 
 -- A slice, and how many of its bytes are written.
 pub record Out : Type 0 where
@@ -18,3 +19,12 @@ push o b = cond (ltb o.used (length o.bytes)) (out (set o.bytes o.used b) (o.use
 unfoldable pub pushes : Out → List ℕ → Out
 pushes o [] = o
 pushes o (b ∷ bs) = pushes (push o b) bs
+
+-- What such a slice holds in the code.
+abbrev pub held : Output → Out
+held o = out o.bytes.now o.used
+
+-- From o the text t was written: o' holds the same slice still, with t behind what was written before.
+pub record Wrote (o o' : Output) (t : List ℕ) : Type 0 where
+  pub same : o'.bytes.ghost_name ≡ o.bytes.ghost_name
+  pub written : held o' ≡ pushes (held o) t

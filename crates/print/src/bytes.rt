@@ -1,48 +1,55 @@
-// Bytes and numbers, written into a slice from a place on; past its end nothing is written. Each function hands back the place after what it wrote.
+// Bytes and numbers, written into a slice one behind the other; past its end nothing is written.
 // Kept as it is: `write!` promises the bytes only where all have room, and here a short slice gets the first of them.
-// Kept as it is: slice and place are two parameters; a struct of them would be no plainer, as each of its methods has to promise that it still holds the same slice.
-ghost use Rattle.std.specs.Prelude.{◌≡◌};
+ghost use Rattle.std.specs.Prelude.{[], ◌∷◌};
 ghost use Rattle.print.specs.Lines.{digits, decimal};
-ghost use Rattle.print.specs.Steps.{out as Steps·out, push as Steps·push, pushes};
+ghost use Rattle.print.specs.Steps.{Wrote};
 
-#[tactic(auto, unfolding(crate::specs::Steps::push))]
-pub fn push(out: &mut [u8], at: usize, b: u8) -> usize
-    ensures { Steps·out out.new result ≡ Steps·push (Steps·out out.old at) b }
-{
-    if at < out.len() {
-        out[at] = b;
-        return at + 1;
-    }
-    at
+// A slice, and how many of its bytes are written.
+#[derive(Debug, Drop)]
+pub struct Output<'a> {
+    pub bytes: &'a mut [u8],
+    pub used: usize,
 }
 
-pub fn push_all(out: &mut [u8], at: usize, text: &[u8]) -> usize
-    ensures { Steps·out out.new result ≡ pushes (Steps·out out.old at) text.now }
-{
-    let mut n = at;
-    for &b in text {
-        n = push(out, n, b);
+impl Output<'_> {
+    #[tactic(auto, unfolding(crate::specs::Steps::push, crate::specs::Steps::pushes))]
+    pub fn push(&mut self, b: u8)
+        ensures { Wrote self.old self.new (b ∷ []) }
+    {
+        if self.used < self.bytes.len() {
+            self.bytes[self.used] = b;
+            self.used += 1;
+        }
     }
-    n
-}
 
-// The digits of n, at most f of them.
-fn put_digits(out: &mut [u8], at: usize, f: u32, n: u64) -> usize
-    ensures { Steps·out out.new result ≡ pushes (Steps·out out.old at) (digits f n) }
-{
-    if f == 0 {
-        return at;
+    pub fn push_all(&mut self, text: &[u8])
+        ensures { Wrote self.old self.new text.now }
+    {
+        for &b in text {
+            self.push(b);
+        }
     }
-    if n < 10 {
-        return push(out, at, b'0' + n as u8);
-    }
-    let k = put_digits(out, at, f - 1, n / 10);
-    push(out, k, b'0' + (n % 10) as u8)
-}
 
-#[tactic(auto, unfolding(crate::specs::Lines::decimal))]
-pub fn put_number(out: &mut [u8], at: usize, n: u64) -> usize
-    ensures { Steps·out out.new result ≡ pushes (Steps·out out.old at) (decimal n) }
-{
-    put_digits(out, at, 20, n)
+    // The digits of n, at most f of them.
+    #[tactic(auto, using(crate::proofs::Pushes::digits_none, crate::proofs::Pushes::digits_one, crate::proofs::Pushes::digits_more))]
+    fn put_digits(&mut self, f: u32, n: u64)
+        ensures { Wrote self.old self.new (digits f n) }
+    {
+        if f == 0 {
+            return;
+        }
+        if n < 10 {
+            self.push(b'0' + n as u8);
+            return;
+        }
+        self.put_digits(f - 1, n / 10);
+        self.push(b'0' + (n % 10) as u8);
+    }
+
+    #[tactic(auto, unfolding(crate::specs::Lines::decimal))]
+    pub fn put_number(&mut self, n: u64)
+        ensures { Wrote self.old self.new (decimal n) }
+    {
+        self.put_digits(20, n);
+    }
 }

@@ -4,6 +4,7 @@
 ghost use Rattle.print.specs.Lines.{labels_text, refusal_text};
 ghost use Rattle.print.specs.Written.{Writes};
 
+use crate::bytes::Output;
 use settings::refusal::Refusal;
 
 pub mod bytes;
@@ -13,17 +14,27 @@ mod lines;
 pub fn print_labels(lens: &[u32], labels: &[i32], out: &mut [u8]) -> usize
     ensures { Writes (labels_text lens.now labels.now) out.old result out.new }
 {
-    let n = bytes::push_all(out, 0, b"trace fix label\n");
-    lines::put_lines(out, n, lens, labels)
+    let mut o = Output {
+        bytes: out,
+        used: 0,
+    };
+    o.push_all(b"trace fix label\n");
+    o.put_lines(lens, labels);
+    o.used
 }
 
 // A refusal. Hands back how many bytes are written.
 pub fn print_refusal(e: Refusal, out: &mut [u8]) -> usize
     ensures { Writes (refusal_text e) out.old result out.new }
 {
-    let a = bytes::push_all(out, 0, b"refused trace\n");
-    let b = bytes::put_number(out, a, settings::refusal::number(e) as u64);
-    let c = bytes::push(out, b, b' ');
-    let d = bytes::put_number(out, c, settings::refusal::trace(e) as u64);
-    bytes::push(out, d, b'\n')
+    let mut o = Output {
+        bytes: out,
+        used: 0,
+    };
+    o.push_all(b"refused trace\n");
+    o.put_number(u64::from(settings::refusal::number(e)));
+    o.push(b' ');
+    o.put_number(settings::refusal::trace(e) as u64);
+    o.push(b'\n');
+    o.used
 }

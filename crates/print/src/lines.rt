@@ -1,54 +1,50 @@
-// The lines of labels, written into a slice from a place on.
-ghost use Rattle.std.specs.Prelude.{◌≡◌};
+// The lines of labels, written into a slice one behind the other.
 ghost use Rattle.print.specs.Lines.{label_text, line as Lines·line, trace_lines, lines as Lines·lines};
-ghost use Rattle.print.specs.Steps.{out as Steps·out, pushes};
+ghost use Rattle.print.specs.Steps.{Wrote};
 
-use crate::bytes::{push, push_all, put_number};
+use crate::bytes::Output;
 
-// A label, or -1.
-fn put_label(out: &mut [u8], at: usize, l: i32) -> usize
-    ensures { Steps·out out.new result ≡ pushes (Steps·out out.old at) (label_text l) }
-{
-    match u64::try_from(l) {
-        Ok(n) => put_number(out, at, n),
-        Err(_) => push_all(out, at, b"-1"),
+impl Output<'_> {
+    // A label, or -1.
+    fn put_label(&mut self, l: i32)
+        ensures { Wrote self.old self.new (label_text l) }
+    {
+        match u64::try_from(l) {
+            Ok(n) => self.put_number(n),
+            Err(_) => self.push_all(b"-1"),
+        }
     }
-}
 
-// A line `trace fix label`.
-#[tactic(auto, using(crate::proofs::Pushes::and_then, crate::proofs::Pushes::and_push, crate::proofs::Pushes::one), unfolding(crate::specs::Lines::line))]
-fn put_line(out: &mut [u8], at: usize, t: u64, f: u64, l: i32) -> usize
-    ensures { Steps·out out.new result ≡ pushes (Steps·out out.old at) (Lines·line t f l) }
-{
-    let a = put_number(out, at, t);
-    let b = push(out, a, b' ');
-    let c = put_number(out, b, f);
-    let d = push(out, c, b' ');
-    let e = put_label(out, d, l);
-    push(out, e, b'\n')
-}
-
-// The lines of trace t, whose fixes have these labels.
-fn put_trace(out: &mut [u8], at: usize, t: u64, labels: &[i32]) -> usize
-    ensures { Steps·out out.new result ≡ pushes (Steps·out out.old at) (trace_lines t 0 labels.now) }
-{
-    let mut k = at;
-    for (f, &l) in labels.iter().enumerate() {
-        k = put_line(out, k, t, f as u64, l);
+    // A line `trace fix label`.
+    fn put_line(&mut self, t: u64, f: u64, l: i32)
+        ensures { Wrote self.old self.new (Lines·line t f l) }
+    {
+        self.put_number(t);
+        self.push(b' ');
+        self.put_number(f);
+        self.push(b' ');
+        self.put_label(l);
+        self.push(b'\n');
     }
-    k
-}
 
-// The lines of all traces. Where there are fewer labels than the lengths say, those that are there.
-pub fn put_lines(out: &mut [u8], at: usize, lens: &[u32], labels: &[i32]) -> usize
-    ensures { Steps·out out.new result ≡ pushes (Steps·out out.old at) (Lines·lines 0 lens.now labels.now) }
-{
-    let mut k = at;
-    let mut i = 0;
-    for (t, &n) in lens.iter().enumerate() {
-        let end = i + (n as usize).min(labels.len() - i);
-        k = put_trace(out, k, t as u64, &labels[i..end]);
-        i = end;
+    // The lines of trace t, whose fixes have these labels.
+    fn put_trace(&mut self, t: u64, labels: &[i32])
+        ensures { Wrote self.old self.new (trace_lines t 0 labels.now) }
+    {
+        for (f, &l) in labels.iter().enumerate() {
+            self.put_line(t, f as u64, l);
+        }
     }
-    k
+
+    // The lines of all traces. Where there are fewer labels than the lengths say, those that are there.
+    pub fn put_lines(&mut self, lens: &[u32], labels: &[i32])
+        ensures { Wrote self.old self.new (Lines·lines 0 lens.now labels.now) }
+    {
+        let mut i = 0;
+        for (t, &n) in lens.iter().enumerate() {
+            let end = i + (n as usize).min(labels.len() - i);
+            self.put_trace(t as u64, &labels[i..end]);
+            i = end;
+        }
+    }
 }

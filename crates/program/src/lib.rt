@@ -8,6 +8,7 @@ ghost use Rattle.reply.specs.declared.Form.{Form as Form-as-Form};
 ghost use Rattle.program.specs.Answer.{Answer, Answered};
 
 use reply::Form;
+use reply::arrays::Arrays;
 use std::io::Read;
 
 const STDOUT_FILENO: i32 = 1;
@@ -19,13 +20,16 @@ pub fn answer_input<R: Read>(stdin: &mut R, form: Form, out: &mut [u8]) -> usize
     requires { length out.old ≡ 49152 }
     ensures { Answered form out.new result }
 {
-    let mut xs = [0.0; 768];
-    let mut ys = [0.0; 768];
-    let mut times = [0.0; 768];
-    let mut marks = [0u8; 768];
-    let mut lens = [0u32; 768];
-    let p = input::read_input(stdin, &mut xs, &mut ys, &mut times, &mut marks, &mut lens);
-    reply::answer(form, p, &xs, &ys, &times, &marks, &lens, out)
+    let mut read = Arrays::<768>::filled(0.0, 0, 0);
+    let p = input::read_input(
+        stdin,
+        &mut read.xs,
+        &mut read.ys,
+        &mut read.times,
+        &mut read.marks,
+        &mut read.lens,
+    );
+    reply::answer(form, p, read.tracks(), out)
 }
 
 // Writes the answer, and says so where that fails. That it asks for an answer is for a program's `main`, which can hand it nothing else.

@@ -6,3 +6,4 @@ pub mod Judged
 pub mod Runs
 pub mod Early
 pub mod Fits
+pub mod Packing

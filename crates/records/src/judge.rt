@@ -3,14 +3,13 @@ ghost use Rattle.std.specs.Prelude.{◌≡◌, eqb};
 ghost use Rattle.trace.specs.Trace.{read_time};
 ghost use Rattle.settings.specs.declared.refusal.Refusal.TheVariants.{EmptyTrace};
 ghost use Rattle.settings.specs.Checks.{refuse_if};
-ghost use Rattle.checks.specs.Traces.{check_fix_size};
-ghost use Rattle.records.specs.Records.{fix_of};
 ghost use Rattle.records.specs.StepsJudge.{no_times, with_time, times_checked, begun, passed, ended, next, started, stepped, contents};
 
 use crate::FixRecord;
 use settings::refusal::Refusal;
 
 // The times of the open trace so far: whether all are there, none is, and each is at most the next; the last mark and time.
+// Kept as it is: the last time with its mark, as `above` of crate `checks` takes them; the line there says why it is no `Option<f64>`.
 #[derive(Clone, Copy, Debug, PartialEq)]
 pub struct Times {
     pub timed: bool,
@@ -85,17 +84,6 @@ impl Times {
     }
 }
 
-// 16 of a fix of trace k.
-#[tactic(auto, unfolding(checks::specs::Traces::check_fix_size, settings::proofs::Turns::turns))]
-fn check_size(k: usize, f: FixRecord) -> Result<(), Refusal>
-    ensures { result ≡ check_fix_size k (fix_of f) }
-{
-    if !distance::in_limit(f.at) {
-        return Err(Refusal::CoordinateSize(k));
-    }
-    Ok(())
-}
-
 // 11 of trace k of n fixes.
 #[tactic(auto, unfolding(settings::proofs::Turns::turns))]
 fn check_empty(k: usize, n: usize) -> Result<(), Refusal>
@@ -133,7 +121,7 @@ impl Judge {
             first: self
                 .first
                 .and(checks::fix::check_fix(k, f.at, f.mark, f.time)),
-            far: self.far.and(check_size(k, f)),
+            far: self.far.and(checks::fix::check_fix_size(k, f.at)),
             left: self.left.saturating_sub(1),
             times: self.times.with(f),
             ..self

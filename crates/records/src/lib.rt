@@ -9,15 +9,18 @@ ghost use Rattle.records.specs.StepsJudge.{started, run};
 ghost use Rattle.records.specs.Steps.{ReadyFitted};
 
 use crate::judge::{Judge, read_time};
+use checks::Room;
 use distance::Point;
 use infostop::answer::Fit;
 use infostop::model::Infostop;
 use settings::refusal::Refusal;
+use trace::Tracks;
 
 pub mod judge;
 pub mod verdict;
 
 // A fix: a point, and a time where the mark is 1. The time beside another mark is not looked at.
+// Kept as it is: an `Option<f64>` has no place for a mark that is neither 0 nor 1, which a caller can hand over and rule 17 refuses.
 #[derive(Clone, Copy, Debug, PartialEq)]
 pub struct FixRecord {
     pub at: Point,
@@ -75,21 +78,20 @@ fn fit_taken(
     ensures { ReadyFitted model n lens.now places labels.old columns.now marks.now floats.old words.old
         result labels.new floats.new words.new }
 {
-    model.fit_predict_many(
-        &columns[..n],
-        &columns[n..2 * n],
-        &columns[2 * n..3 * n],
-        &marks[..n],
+    let tracks = Tracks {
+        xs: &columns[..n],
+        ys: &columns[n..2 * n],
+        times: &columns[2 * n..3 * n],
+        marks: &marks[..n],
         lens,
-        labels,
-        places,
-        floats,
-        words,
-    )
+    };
+    model.fit_predict_many(tracks, labels, places, floats, words)
 }
 
 // The fit of the records. Beside the slices of `fit_predict_many` it is lent `columns`, for 3 × records numbers, and `marks`, for one of each record.
 // One of the two that is shorter is 10. A refusal other than 18 and 19 leaves all as it was.
+// Kept as it is: each slice is a parameter; a struct of those that are written would need, of each function that it is lent to, a promise that it still
+// holds the same slices, and the callers lend them one by one.
 pub fn fit_records(
     model: Infostop,
     fixes: &[FixRecord],
@@ -105,17 +107,20 @@ pub fn fit_records(
         labels.old columns.old marks.old floats.old words.old
         result labels.new columns.new marks.new floats.new words.new }
 {
+    let room = Room {
+        labels: labels.len(),
+        places,
+        floats: floats.len(),
+        words: words.len(),
+    };
     let decided = verdict::decide(
         model.config,
         judge_records(fixes, lens),
         fixes.len(),
         lens,
-        labels.len(),
-        places,
         columns.len(),
         marks.len(),
-        floats.len(),
-        words.len(),
+        room,
     );
     // Where they are refused none is taken apart, and the slices stay as they were.
     let n = decided.unwrap_or(0);

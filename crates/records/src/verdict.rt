@@ -4,6 +4,7 @@ ghost use Rattle.records.specs.Records.{work_floats};
 ghost use Rattle.records.specs.StepsJudge.{checks_from, verdict_by};
 
 use crate::judge::Judge;
+use checks::Room;
 use settings::config::Config;
 use settings::refusal::Refusal;
 
@@ -19,26 +20,24 @@ fn work_floats(n: usize, columns: usize, marks: usize, floats: usize) -> usize
 }
 
 // How many records are to be taken apart, n of them, or the first refusal: the settings; 7 to 10 by the lengths of the lent slices; then 11 to 17, by what the
-// machine says of the records.
+// machine says of the records. The work slice of floats counts only where columns and marks, of these lengths, hold all records.
 #[tactic(auto, using(checks::proofs::Lengths::counts_few), unfolding(crate::specs::StepsJudge::checks_from, crate::specs::StepsJudge::verdict_by, settings::proofs::Turns::turns))]
 pub fn decide(
     config: Config,
     judge: Judge,
     n: usize,
     lens: &[u32],
-    labels: usize,
-    places: usize,
     columns: usize,
     marks: usize,
-    floats: usize,
-    words: usize,
+    room: Room,
 ) -> Result<usize, Refusal>
-    ensures { result ≡ verdict_by (checks_from config judge n lens.now labels places columns marks floats words) n }
+    ensures { result ≡ verdict_by (checks_from config judge n lens.now room.labels room.places columns marks room.floats room.words) n }
 {
     settings::config::check_config(config)?;
-    checks::slices::check_lengths(lens, n, n, n, n, labels)?;
-    checks::slices::check_counts(lens.len(), n, places)?;
-    checks::slices::check_work(n, places, work_floats(n, columns, marks, floats), words)?;
+    checks::slices::check_lengths(lens, n, n, n, n, room.labels)?;
+    checks::slices::check_counts(lens.len(), n, room.places)?;
+    let floats = work_floats(n, columns, marks, room.floats);
+    checks::slices::check_work(n, Room { floats, ..room })?;
     judge.contents()?;
     Ok(n)
 }

@@ -4,17 +4,12 @@ use Rattle.std.specs.Float.{binary64}
 use Rattle.std.specs.Float.Ieee.{Float, nan, inf, fin, is_nan, to_bits, of_bits}
 use borrow.Author.Tests.{lt-ltb}
 use lib.Ieee.Bits.{nan_bits_is, nan_bits_above}
-
-nan_alone : (x : Float) → is_nan x ≡ true → x ≡ nan
-unfolding is_nan
-nan_alone nan e = refl
-nan_alone (inf s) e = cc
-nan_alone (fin s m d) e = cc
+use Rattle.float.proofs.Special.{the_nan}
 
 -- a pattern above the infinity's is a NaN's
 pub nan_of_bits : (b : ℕ) → 0x7ff0_0000_0000_0000 < b % 0x8000_0000_0000_0000 → nan ≡ of_bits binary64 b
 nan_of_bits b h =
-    sym (nan_alone (of_bits binary64 b) (sym (nan_bits_is binary64 b) ∙ nan_bits_above binary64 b ∙ lt-ltb 0x7ff0_0000_0000_0000 (b % 0x8000_0000_0000_0000) h))
+    sym (the_nan (of_bits binary64 b) (sym (nan_bits_is binary64 b) ∙ nan_bits_above binary64 b ∙ lt-ltb 0x7ff0_0000_0000_0000 (b % 0x8000_0000_0000_0000) h))
 
 pub bits_of_nan : (x : Float) → is_nan x ≡ true → 0x7ff8_0000_0000_0000 ≡ to_bits binary64 x
 unfolding is_nan to_bits

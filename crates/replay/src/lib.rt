@@ -1,7 +1,9 @@
 // For the programs that replay recorded answers: lists of cases read, as unsigned decimal numbers and texts, and answers printed.
+// Kept as it is: a list is read into an array of fixed size, since the project takes no heap; and what is printed goes piece by piece through `io`,
+// since `write!` into a buffer of fixed size would have to answer for a line that is longer.
 #![tactic(auto)]
 
-ghost use Rattle.std.specs.Prelude.{◌≡◌, ◌+◌, not, ◌≤◌, ◌<◌, length, take, drop, IfSome, IsNone};
+ghost use Rattle.std.specs.Prelude.{◌≡◌, ◌+◌, not, ◌≤◌, ◌<◌, length, take, drop, replicate, IfSome, IsNone};
 ghost use Rattle.std.specs.List.{take_while, fold, list_all};
 ghost use Rattle.std.specs.Char.{is_ascii_digit};
 ghost use Rattle.std.specs.Float.{binary64};
@@ -10,13 +12,13 @@ ghost use Rattle.float.specs.Binary64.{same_bits};
 ghost use Rattle.replay.specs.Numbers.{with_digit, value_at, after, past, text_at};
 
 // Where a program reads its input and prints its output.
-const STDIN_FILENO: i32 = 0;
+pub const STDIN_FILENO: i32 = 0;
 
 pub const STDOUT_FILENO: i32 = 1;
 
 // Room for a list: 1,000,000 zeros. The length is said beside them, since lending the array as a slice asks for it.
-fn room() -> [u8; 1000000]
-    ensures { 1000000 ≡ length result }
+pub fn room() -> [u8; 1000000]
+    ensures { (1000000 ≡ length result) × (result ≡ replicate 1000000 0) }
 {
     [0; 1000000]
 }
@@ -141,6 +143,7 @@ pub fn each_case<F: FnMut(&mut Numbers)>(answer: F)
 }
 
 // The value with these bits; every NaN pattern is NaN.
+// Kept as it is, and so is `bits_of`: `f64::from_bits` asks that a NaN comes by its one pattern, and `to_bits` promises no pattern of a NaN.
 #[tactic(auto, using(crate::proofs::Bits::nan_of_bits, std::proofs::lemmas::Float::not_nan_f64_bits))]
 pub fn float_of_bits(bits: u64) -> f64
     ensures { result ≡ of_bits binary64 bits }
@@ -164,19 +167,11 @@ pub fn bits_of(x: f64) -> u64
     }
 }
 
-// Whether two floats are the same, bit for bit.
-#[tactic(auto, unfolding(float::specs::Binary64::same_bits))]
-pub fn same_float(x: f64, y: f64) -> bool
-    ensures { result ≡ same_bits x y }
-{
-    bits_of(x) == bits_of(y)
-}
-
 // Whether all floats are x, bit for bit.
 pub fn all_floats(s: &[f64], x: f64) -> bool
     ensures { result ≡ list_all (λ y. same_bits y x) s.now }
 {
-    s.iter().all(|&y| same_float(y, x))
+    s.iter().all(|&y| float::same_bits(y, x))
 }
 
 pub fn print_number(n: u64) {
@@ -185,10 +180,11 @@ pub fn print_number(n: u64) {
 
 // Prints a label or an index, and -1 for one that is negative.
 pub fn print_label(n: i32) {
-    if n < 0 {
-        io::write_all(STDOUT_FILENO, b"-1");
-    } else {
-        print_number(n as u64);
+    match u64::try_from(n) {
+        Ok(n) => print_number(n),
+        Err(_) => {
+            io::write_all(STDOUT_FILENO, b"-1");
+        }
     }
 }
 
@@ -203,6 +199,16 @@ pub fn space() {
 
 pub fn line_end() {
     io::write_all(STDOUT_FILENO, b"\n");
+}
+
+// Prints 2 where the work slices are free, else 1 where they are as they were, floats 0.5 and words 9, and 0 where they are not.
+pub fn print_work(free: bool, floats: &[f64], words: &[i32]) {
+    if free {
+        space();
+        print_number(2);
+    } else {
+        print_flag(all_floats(floats, 0.5) && words.iter().all(|&w| w == 9));
+    }
 }
 
 // Prints each item behind a space.

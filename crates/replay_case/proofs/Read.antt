@@ -26,9 +26,12 @@ module _ (l : List ℕ) (k c : ℕ) where
   unfolding total
   sum_on h = rw (drop-cons l k 0 h, add-one k) (omega arith)
 
-  pub sum_end : length l ≤ k → c + total (drop k l) ≡ c
+  -- No length is left: the sum so far is the answer.
+  pub sum_done : (s : ℕ) → length l ≤ k → c ≤ 65537 → min (c + total (drop k l)) 65537 ≡ s → c ≡ s
   unfolding total
-  sum_end h = rw (drop_of_length-le l h) (omega arith)
+  sum_done s h few e =
+      let none : total (drop k l) ≡ 0 = rw (drop_of_length-le l h) in
+      omega arith
 
 -- A float is read where n numbers are passed.
 pub float_read : (s p : Numbers) (n : ℕ) (x : Float) → p ≡ past s n → x ≡ of_bits binary64 (value_at p.text.now p.at) → x ≡ float_at s.text.now s.at n

@@ -1,14 +1,17 @@
 // For the programs that run fits: settings, trace lengths and fixes, read from a list of cases, and a refusal printed.
 #![tactic(auto)]
 
-ghost use Rattle.std.specs.Prelude.{◌≡◌, min, length, set};
+ghost use Rattle.std.specs.Prelude.{◌≡◌, min, length};
 ghost use Rattle.trace.specs.Trace.{total};
 ghost use Rattle.replay.specs.Numbers.{value_at, past};
 ghost use Rattle.replay_case.specs.Case.{settings_at, length_of, mark_of, LensRead, FixesRead};
 
+use lists::put;
 use replay::Numbers;
 use settings::config::Config;
 use settings::refusal::Refusal;
+
+pub mod fixes;
 
 // Reads `r1 r2 single stay gap size resolution seed`, floats as their bits.
 #[tactic(auto, unfolding(crate::specs::Case::settings_at, crate::specs::Case::float_at, replay::specs::Numbers::number_at, replay::specs::Numbers::skip))]
@@ -28,6 +31,8 @@ pub fn read_settings(list: &mut Numbers) -> Config
     }
 }
 
+// Kept as it is, and so is `mark_of`: no trait of the library names the largest number of a type, so `T::try_from(n).unwrap_or(largest)` for both would
+// have it handed over, and each would be a call of the other's length.
 fn length_of(n: u64) -> u32
     ensures { result ≡ length_of n }
 {
@@ -59,7 +64,7 @@ pub fn read_lens(list: &mut Numbers, lens: &mut [u32])
 }
 
 // The number of fixes of traces of these lengths: 65,537 for every larger one, since no fit takes so many.
-#[tactic(auto, using(crate::proofs::Read::sum_on, crate::proofs::Read::sum_end))]
+#[tactic(auto, using(crate::proofs::Read::sum_on, crate::proofs::Read::sum_done))]
 pub fn fix_count(lens: &[u32]) -> usize
     ensures { result ≡ min (total lens.now) 65537 }
 {
@@ -70,16 +75,8 @@ pub fn fix_count(lens: &[u32]) -> usize
     count
 }
 
-// Writes v at place i, where there is room for it.
-fn put<T: Copy>(s: &mut [T], i: usize, v: T)
-    ensures { s.new ≡ set s.old i v }
-{
-    if i < s.len() {
-        s[i] = v;
-    }
-}
-
 // Reads n fixes, `x y mark time` each, into the slices. What a slice has no room for is passed over.
+// Kept as it is: four slices; a struct of them would need a clause for each one in every function that it is lent to, that it still holds the same slice.
 pub fn read_fixes(
     list: &mut Numbers,
     n: usize,

@@ -9,7 +9,9 @@ ghost use Rattle.std.specs.Prelude.{◌≤◌, length};
 
 use infostop::model::Infostop;
 use replay::{Numbers, STDOUT_FILENO};
+use replay_case::fixes::Fixes;
 use settings::config::Config;
+use trace::{Trace, Tracks};
 
 // The number of places, and x, y and label of each.
 fn print_places(m: Infostop) {
@@ -46,16 +48,12 @@ fn print_medians(m: Infostop) {
 // Fits, and prints the answer.
 fn print_fit(
     model: Infostop,
-    xs: &[f64],
-    ys: &[f64],
-    times: &[f64],
-    marks: &[u8],
-    lens: &[u32],
+    tracks: Tracks,
     labels: &mut [i32],
     floats: &mut [f64],
     words: &mut [i32],
 ) {
-    let f = model.fit_predict_many(xs, ys, times, marks, lens, labels, 512, floats, words);
+    let f = model.fit_predict_many(tracks, labels, 512, floats, words);
     replay_case::print_answer(&f.answer);
     if let Ok(labelled) = f.answer {
         replay::print_each(labels, replay::print_label);
@@ -69,8 +67,8 @@ fn print_fit(
 }
 
 // Fits in slices of the lengths that a fit of 512 places asks for; refused settings are printed.
-fn with_work(config: Config, xs: &[f64], ys: &[f64], times: &[f64], marks: &[u8], lens: &[u32])
-    requires { length xs.now ≤ 256 }
+fn with_work(config: Config, tracks: Tracks)
+    requires { length tracks.xs.now ≤ 256 }
 {
     let made = Infostop::from_config(config);
     if made.checked.is_err() {
@@ -80,16 +78,12 @@ fn with_work(config: Config, xs: &[f64], ys: &[f64], times: &[f64], marks: &[u8]
     let mut labels = [7i32; 256];
     let mut floats = [0.0f64; 263168];
     let mut words = [0i32; 5120];
-    let n = xs.len();
+    let n = tracks.xs.len();
     let floats_end = 4 * n + 262144;
     let words_end = 4 * n + 4096;
     print_fit(
         made.model,
-        xs,
-        ys,
-        times,
-        marks,
-        lens,
+        tracks,
         &mut labels[..n],
         &mut floats[0..floats_end],
         &mut words[0..words_end],
@@ -103,12 +97,21 @@ fn with_lens(list: &mut Numbers, config: Config, lens: &[u32]) {
         io::write_all(STDOUT_FILENO, b"too many fixes");
         return;
     }
-    let mut xs = [0.0f64; 256];
-    let mut ys = [0.0f64; 256];
-    let mut times = [0.0f64; 256];
-    let mut marks = [0u8; 256];
-    replay_case::read_fixes(list, n, &mut xs, &mut ys, &mut times, &mut marks);
-    with_work(config, &xs[..n], &ys[..n], &times[..n], &marks[..n], lens);
+    let fixes = Fixes::<256>::read(list, n);
+    let Trace {
+        xs,
+        ys,
+        times,
+        marks,
+    } = fixes.first(n);
+    let tracks = Tracks {
+        xs,
+        ys,
+        times,
+        marks,
+        lens,
+    };
+    with_work(config, tracks);
 }
 
 // Answers a case. One with more than 256 traces is not answered.

@@ -1,6 +1,6 @@
 // Replays a list of cases `seed n k`, n up to 64, each followed by k links `a b w`, w as its bits. Prints the mark (0 rest,
 // 1 spent, 2 none kept), the rounds and the bits of the codelength, then each node's label.
-// Kept as it is: arrays of fixed size, of which a part is lent, since the project's memory is fixed and it takes no heap.
+// Kept as it is: arrays of fixed size, of which a part is lent, since the replay programs take no heap (docs/DECISIONS.md, "No heap").
 #![tactic(auto)]
 
 ghost use Rattle.std.specs.Prelude.{length};

@@ -8,8 +8,8 @@ ghost use Rattle.float.specs.Binary64.{same_bits};
 ghost use Rattle.replay_model.specs.SameModel.{same_floats, same_config, same_model};
 
 use infostop::model::Infostop;
-use replay::same_float;
 use settings::config::Config;
+use trace::Tracks;
 
 // A model with these settings that a fit of two linked places has altered. Refused settings: one that no fit has altered.
 pub fn fitted_model(c: Config) -> Infostop
@@ -24,17 +24,16 @@ pub fn fitted_model(c: Config) -> Infostop
     let mut floats = [0.0; 20];
     let mut words = [0i32; 32];
     let made = Infostop::from_config(c);
-    let f = made.model.fit_predict_many(
-        &xs,
-        &ys,
-        &times,
-        &marks,
-        &lens,
-        &mut labels,
-        2,
-        &mut floats,
-        &mut words,
-    );
+    let tracks = Tracks {
+        xs: &xs,
+        ys: &ys,
+        times: &times,
+        marks: &marks,
+        lens: &lens,
+    };
+    let f = made
+        .model
+        .fit_predict_many(tracks, &mut labels, 2, &mut floats, &mut words);
     f.model
 }
 
@@ -42,7 +41,7 @@ pub fn fitted_model(c: Config) -> Infostop
 fn pairs_agree(a: &[f64], b: &[f64]) -> bool
     ensures { result ≡ list_all (λ p. same_bits p.0 p.1) (zip a.now b.now) }
 {
-    a.iter().zip(b).all(|(&x, &y)| same_float(x, y))
+    a.iter().zip(b).all(|(&x, &y)| float::same_bits(x, y))
 }
 
 #[tactic(auto, using(crate::proofs::Same::columns_differ))]
@@ -57,11 +56,11 @@ fn same_floats(a: &[f64], b: &[f64]) -> bool
 fn same_config(a: Config, b: Config) -> bool
     ensures { result ≡ same_config a b }
 {
-    same_float(a.r1, b.r1)
-        && same_float(a.r2, b.r2)
-        && same_float(a.min_staying_time, b.min_staying_time)
-        && same_float(a.max_time_between, b.max_time_between)
-        && same_float(a.min_spatial_resolution, b.min_spatial_resolution)
+    float::same_bits(a.r1, b.r1)
+        && float::same_bits(a.r2, b.r2)
+        && float::same_bits(a.min_staying_time, b.min_staying_time)
+        && float::same_bits(a.max_time_between, b.max_time_between)
+        && float::same_bits(a.min_spatial_resolution, b.min_spatial_resolution)
         && a.label_singleton == b.label_singleton
         && a.min_size == b.min_size
         && a.seed == b.seed

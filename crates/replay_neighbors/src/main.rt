@@ -6,6 +6,7 @@
 ghost use Rattle.std.specs.Prelude.{◌≡◌, ◌*◌, ◌≤◌, length};
 
 use distance::Point;
+use neighbors::places::Places;
 use replay::Numbers;
 
 // No case has more medians.
@@ -22,9 +23,9 @@ fn read_medians(list: &mut Numbers, mx: &mut [f64], my: &mut [f64])
 }
 
 // The number of places, and x, y and count of each.
-fn print_places(xs: &[f64], ys: &[f64], counts: &[u32]) {
-    replay::print_number(xs.len() as u64);
-    for ((&x, &y), &count) in xs.iter().zip(ys).zip(counts) {
+fn print_places(places: &Places) {
+    replay::print_number(places.len() as u64);
+    for ((&x, &y), &count) in places.xs.iter().zip(places.ys).zip(places.counts) {
         replay::space();
         replay::print_float(x);
         replay::space();
@@ -35,13 +36,11 @@ fn print_places(xs: &[f64], ys: &[f64], counts: &[u32]) {
 }
 
 // The number of the place of each median; one that has none gets the number of places.
-fn print_place_of(xs: &[f64], ys: &[f64], mx: &[f64], my: &[f64])
-    requires { length ys.now ≡ length xs.now }
-{
+fn print_place_of(places: &Places, mx: &[f64], my: &[f64]) {
     for (&x, &y) in mx.iter().zip(my) {
-        let place = neighbors::places::place_of(xs, ys, Point { x, y });
+        let place = neighbors::places::place_of(places.xs, places.ys, Point { x, y });
         replay::space();
-        replay::print_number(place.unwrap_or(xs.len()) as u64);
+        replay::print_number(place.unwrap_or(places.len()) as u64);
     }
 }
 
@@ -105,13 +104,13 @@ fn find_nodes(table: &mut [f64], p: usize, nodes: &mut [u32]) -> usize
 }
 
 // Prints the links of the places, and the nodes.
-fn answer_links(xs: &[f64], ys: &[f64], counts: &[u32], r2: f64)
-    requires { (length xs.now ≤ 128) × (length ys.now ≡ length xs.now) × (length counts.now ≡ length xs.now) }
+fn answer_links(places: &Places, r2: f64)
+    requires { length places.now ≤ 128 }
 {
     let mut table = [0.0; 16384];
     let mut nodes = [0u32; 128];
-    let p = xs.len();
-    neighbors::weights::fill_table(xs, ys, counts, r2, &mut table[..p * p]);
+    let p = places.len();
+    neighbors::weights::fill_table(places, r2, &mut table[..p * p]);
     let k = find_nodes(&mut table, p, &mut nodes);
     print_links(&table, &nodes[..k]);
 }
@@ -127,9 +126,14 @@ fn print_answer(mx: &[f64], my: &[f64], r2: f64)
     if let Some(p) = found
         && p <= MOST
     {
-        print_places(&xs[..p], &ys[..p], &counts[..p]);
-        print_place_of(&xs[..p], &ys[..p], mx, my);
-        answer_links(&xs[..p], &ys[..p], &counts[..p], r2);
+        let places = Places {
+            xs: &xs[..p],
+            ys: &ys[..p],
+            counts: &counts[..p],
+        };
+        print_places(&places);
+        print_place_of(&places, mx, my);
+        answer_links(&places, r2);
     }
 }
 

@@ -6,14 +6,16 @@
 #![tactic(auto)]
 
 use replay::Numbers;
+use reply::arrays::Arrays;
 use text::Input;
+use trace::Tracks;
 
-fn all_kept(xs: &[f64], ys: &[f64], times: &[f64], marks: &[u8], lens: &[u32]) -> bool {
-    replay::all_floats(xs, -0.0)
-        && replay::all_floats(ys, -0.0)
-        && replay::all_floats(times, -0.0)
-        && marks.iter().all(|&mark| mark == 7)
-        && lens.iter().all(|&len| len == 7)
+fn all_kept(t: Tracks) -> bool {
+    replay::all_floats(t.xs, -0.0)
+        && replay::all_floats(t.ys, -0.0)
+        && replay::all_floats(t.times, -0.0)
+        && t.marks.iter().all(|&mark| mark == 7)
+        && t.lens.iter().all(|&len| len == 7)
 }
 
 // The item before place n, where there is one.
@@ -26,34 +28,38 @@ fn print_behind_space(n: u64) {
     replay::print_number(n);
 }
 
-fn print_taken(taken: Input, xs: &[f64], ys: &[f64], times: &[f64], marks: &[u8], lens: &[u32]) {
+fn print_taken(taken: Input, t: Tracks) {
     print_behind_space(taken.fixes as u64);
     print_behind_space(taken.traces as u64);
-    for s in [xs, ys, times] {
+    for s in [t.xs, t.ys, t.times] {
         if let Some(x) = before(s, taken.fixes) {
             print_behind_space(replay::bits_of(x));
         }
     }
-    if let Some(mark) = before(marks, taken.fixes) {
+    if let Some(mark) = before(t.marks, taken.fixes) {
         print_behind_space(u64::from(mark));
     }
-    if let Some(len) = before(lens, taken.traces) {
+    if let Some(len) = before(t.lens, taken.traces) {
         print_behind_space(u64::from(len));
     }
 }
 
 // Lends slices that are longer than any text fills.
 fn print_parsed(t: &[u8]) {
-    let mut xs = [-0.0f64; 800];
-    let mut ys = [-0.0f64; 800];
-    let mut times = [-0.0f64; 800];
-    let mut marks = [7u8; 800];
-    let mut lens = [7u32; 800];
-    let parsed = text::parse(t, &mut xs, &mut ys, &mut times, &mut marks, &mut lens);
+    let mut read = Arrays::<800>::filled(-0.0, 7, 7);
+    let parsed = text::parse(
+        t,
+        &mut read.xs,
+        &mut read.ys,
+        &mut read.times,
+        &mut read.marks,
+        &mut read.lens,
+    );
+    let tracks = read.tracks();
     replay_case::print_answer(&parsed);
-    replay::print_flag(all_kept(&xs, &ys, &times, &marks, &lens));
+    replay::print_flag(all_kept(tracks));
     if let Ok(taken) = parsed {
-        print_taken(taken, &xs, &ys, &times, &marks, &lens);
+        print_taken(taken, tracks);
     }
     replay::line_end();
 }

@@ -30,6 +30,7 @@ fn label_of(n: u64) -> i32 {
 }
 
 // Reads the number of runs, and the labels as runs into the front of the slice; tells how many they are. A run for which there is no room is left out.
+// Kept as it is: a count by hand and no `sum()`, since each run is laid where the count of those before it stands.
 fn read_runs(list: &mut Numbers, labels: &mut [i32]) -> usize {
     let mut count = 0;
     for _ in 0..list.next_number() {

@@ -76,7 +76,7 @@ fn print_fit(c: Case, four: [FixRecord; 4], lens: &[u32])
     replay_case::print_answer(&f.answer);
     replay::print_flag(labels.iter().all(|&label| label == 7));
     replay::print_flag(replay_model::same_model(before, f.model));
-    replay::print_flag(replay::all_floats(&floats, 0.5) && words.iter().all(|&word| word == 9));
+    replay::print_work(false, &floats, &words);
     print_taken(&columns, &marks);
 }
 

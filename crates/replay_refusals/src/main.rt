@@ -11,6 +11,7 @@ use infostop::answer::Labelled;
 use replay::Numbers;
 use settings::config::Config;
 use settings::refusal::Refusal;
+use trace::Tracks;
 
 // The lengths of the slices lent, `places` and the number of traces.
 #[derive(Clone, Copy, Debug, PartialEq, Eq)]
@@ -48,48 +49,27 @@ fn is_work_free(answer: &Result<Labelled, Refusal>) -> bool {
     )
 }
 
-fn print_work(free: bool, floats: &[f64], words: &[i32]) {
-    if free {
-        replay::space();
-        replay::print_number(2);
-    } else {
-        replay::print_flag(replay::all_floats(floats, 0.5) && words.iter().all(|&w| w == 9));
-    }
-}
-
 // Fits and prints: labels are 7, floats 0.5 and words 9 before.
 fn print_fit(
     config: Config,
-    xs: &[f64],
-    ys: &[f64],
-    times: &[f64],
-    marks: &[u8],
-    lens: &[u32],
+    tracks: Tracks,
     labels: &mut [i32],
     places: usize,
     floats: &mut [f64],
     words: &mut [i32],
 ) {
     let before = replay_model::fitted_model(config);
-    let f = before.fit_predict_many(xs, ys, times, marks, lens, labels, places, floats, words);
+    let f = before.fit_predict_many(tracks, labels, places, floats, words);
     replay_case::print_answer(&f.answer);
     replay::print_flag(labels.iter().all(|&label| label == 7));
     replay::print_flag(replay_model::same_model(before, f.model));
-    print_work(is_work_free(&f.answer), floats, words);
+    replay::print_work(is_work_free(&f.answer), floats, words);
     replay::space();
     replay::print_number(f.model.count as u64);
 }
 
 // Lends labels and work slices of the case's lengths.
-fn with_work(
-    config: Config,
-    xs: &[f64],
-    ys: &[f64],
-    times: &[f64],
-    marks: &[u8],
-    lens: &[u32],
-    l: Lengths,
-) {
+fn with_work(config: Config, tracks: Tracks, l: Lengths) {
     if 65537 < l.labels || 264000 < l.floats || 264000 < l.words {
         return;
     }
@@ -98,11 +78,7 @@ fn with_work(
     let mut words = [9i32; 264000];
     print_fit(
         config,
-        xs,
-        ys,
-        times,
-        marks,
-        lens,
+        tracks,
         &mut labels[..l.labels],
         l.places,
         &mut floats[..l.floats],
@@ -111,6 +87,8 @@ fn with_work(
 }
 
 // Reads the fixes into the columns, and answers.
+// Kept as it is: four slices to be written, each of a length of its own, where `Fixes` of crate `replay_case` has one length for all; and in a struct lent
+// by `&mut` each would have to be said to be the caller's still, as is told at `read_fixes` there.
 fn with_fixes(
     list: &mut Numbers,
     config: Config,
@@ -123,7 +101,14 @@ fn with_fixes(
 ) {
     let n = list.next_size();
     replay_case::read_fixes(list, n, xs, ys, times, marks);
-    with_work(config, xs, ys, times, marks, lens, l);
+    let tracks = Tracks {
+        xs,
+        ys,
+        times,
+        marks,
+        lens,
+    };
+    with_work(config, tracks, l);
 }
 
 // Lends columns of the case's lengths.

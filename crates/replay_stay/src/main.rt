@@ -7,21 +7,15 @@ ghost use Rattle.std.specs.Prelude.{length};
 ghost use Rattle.replay_stay.specs.Steps.{Room};
 
 use replay::Numbers;
+use replay_case::fixes::Fixes;
 use settings::config::Config;
+use trace::Trace;
 
 // Prints the answer for a trace, worked out in a slice of 1,600 numbers.
-fn print_stays(
-    s: Config,
-    xs: &[f64],
-    ys: &[f64],
-    times: &[f64],
-    marks: &[u8],
-    work: &mut [f64],
-    events: &mut [i32],
-)
-    requires { Room (length xs.now) (length ys.now) (length times.now) (length marks.now) (length work.old) (length events.old) }
+fn print_stays(s: Config, t: Trace, work: &mut [f64], events: &mut [i32])
+    requires { Room (length t.xs.now) (length work.old) (length events.old) }
 {
-    let k = stay::stays(xs, ys, times, marks, s, work, 0, events);
+    let k = stay::stays(t, s, work, 0, events);
     for &event in events.iter() {
         replay::print_label(event);
         replay::space();
@@ -54,22 +48,10 @@ fn answer(list: &mut Numbers) {
     if 400 < n {
         return;
     }
-    let mut xs = [0.0f64; 400];
-    let mut ys = [0.0f64; 400];
-    let mut times = [0.0f64; 400];
-    let mut marks = [0u8; 400];
+    let fixes = Fixes::<400>::read(list, n);
     let mut work = [0.0f64; 1600];
     let mut events = [0i32; 400];
-    replay_case::read_fixes(list, n, &mut xs, &mut ys, &mut times, &mut marks);
-    print_stays(
-        settings,
-        &xs[..n],
-        &ys[..n],
-        &times[..n],
-        &marks[..n],
-        &mut work,
-        &mut events[..n],
-    );
+    print_stays(settings, fixes.first(n), &mut work, &mut events[..n]);
 }
 
 fn main() {

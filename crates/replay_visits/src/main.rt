@@ -10,15 +10,38 @@
 #![tactic(auto)]
 
 ghost use Rattle.std.specs.Prelude.{◌≤◌, length};
-ghost use Rattle.replay_visits.specs.Steps.{Columns, Within};
 
-use crate::read::{Head, Sizes};
+use crate::read::Slice;
 use infostop::model::Infostop;
 use replay::{Numbers, STDOUT_FILENO};
+use replay_case::fixes::Fixes;
 use settings::config::Config;
 use settings::refusal::Refusal;
+use trace::{Trace, Tracks};
 
 mod read;
+
+// What the reports are asked: the trace, the length of the output slices, for which there is room, and which slice is short.
+#[derive(Clone, Copy, Debug)]
+struct Asked {
+    trace: usize,
+    room: usize,
+    short: Option<Slice>,
+    ghost few: { room ≤ 8 },
+}
+
+// A case: the fixes and the lengths of its traces, and how many fixes and traces are fitted.
+#[derive(Clone, Copy, Debug)]
+struct Case<'a, 'b> {
+    asked: Asked,
+    fixes: Trace<'a>,
+    lens: &'b [u32],
+    until: usize,
+    fitted: usize,
+    ghost few: { length fixes.xs.now ≤ 257 },
+    ghost fixes_fitted: { until ≤ length fixes.xs.now },
+    ghost traces_fitted: { fitted ≤ length lens.now },
+}
 
 // Prints the refusal, or `0 0` and the number of items.
 fn print_reported(reported: Result<usize, Refusal>) {
@@ -30,121 +53,81 @@ fn print_reported(reported: Result<usize, Refusal>) {
 }
 
 // The length of slice `which`, of n items: one less where it is the short one.
-fn lent(n: usize, which: u64, short: u64) -> usize
+fn lent(n: usize, which: Slice, short: Option<Slice>) -> usize
     ensures { result ≤ n }
 {
-    if which == short {
+    if short == Some(which) {
         n.saturating_sub(1)
     } else {
         n
     }
 }
 
-// The length of a column: 5 stands for all four.
-fn lent_column(n: usize, which: u64, short: u64) -> usize
+// The length of a column: it is the short one, too, where all four are.
+fn lent_column(n: usize, which: Slice, short: Option<Slice>) -> usize
     ensures { result ≤ n }
 {
-    lent(n, if short == 5 { 5 } else { which }, short)
-}
-
-// Work slices are free where the report is given.
-fn print_work(refused: bool, floats: &[f64], words: &[i32]) {
-    if refused {
-        replay::print_flag(replay::all_floats(floats, 0.5) && words.iter().all(|&w| w == 9));
+    if short == Some(Slice::AllColumns) {
+        lent(n, Slice::AllColumns, short)
     } else {
-        replay::space();
-        replay::print_number(2);
+        lent(n, which, short)
     }
 }
 
 // Asks for the visits, and prints the answer.
-fn ask_visits(
-    m: Infostop,
-    s: Sizes,
-    xs: &[f64],
-    ys: &[f64],
-    times: &[f64],
-    marks: &[u8],
-    lens: &[u32],
-    floats: &mut [f64],
-    words: &mut [i32],
-)
-    requires { s.room ≤ 8 }
-{
+fn ask_visits(m: Infostop, asked: Asked, tracks: Tracks, floats: &mut [f64], words: &mut [i32]) {
     let mut out = [7u32; 8];
-    let reported = reports::visits::visits(
-        m,
-        xs,
-        ys,
-        times,
-        marks,
-        lens,
-        s.trace,
-        floats,
-        words,
-        &mut out[..s.room],
-    );
+    let lent = &mut out[..asked.room];
+    let reported = reports::visits::visits(m, tracks, asked.trace, floats, words, lent);
     print_reported(reported);
     replay::print_each(&out, |n| replay::print_number(u64::from(n)));
-    print_work(reported.is_err(), floats, words);
+    replay::print_work(reported.is_ok(), floats, words);
     replay::line_end();
 }
 
 // Asks for the visits with columns and work slices of the case's lengths.
-fn print_visits(
-    m: Infostop,
-    s: Sizes,
-    xs: &[f64],
-    ys: &[f64],
-    times: &[f64],
-    marks: &[u8],
-    lens: &[u32],
-)
-    requires { Columns (length xs.now) (length ys.now) (length times.now) (length marks.now) × (s.room ≤ 8) }
-{
+fn print_visits(m: Infostop, case: Case) {
     let mut floats = [0.5f64; 1028];
     let mut words = [9i32; 1028];
-    let n = xs.len();
-    let a = lent_column(n, 1, s.short);
-    let b = lent_column(n, 2, s.short);
-    let c = lent_column(n, 3, s.short);
-    let d = lent_column(n, 4, s.short);
-    let f = lent(4 * n, 6, s.short);
-    let w = lent(4 * n, 7, s.short);
-    ask_visits(
-        m,
-        s,
-        &xs[..a],
-        &ys[..b],
-        &times[..c],
-        &marks[..d],
-        lens,
-        &mut floats[..f],
-        &mut words[..w],
-    );
+    let short = case.asked.short;
+    let n = case.fixes.xs.len();
+    let a = lent_column(n, Slice::Xs, short);
+    let b = lent_column(n, Slice::Ys, short);
+    let c = lent_column(n, Slice::Times, short);
+    let d = lent_column(n, Slice::Marks, short);
+    let f = lent(4 * n, Slice::Floats, short);
+    let w = lent(4 * n, Slice::Words, short);
+    let given = Tracks {
+        xs: &case.fixes.xs[..a],
+        ys: &case.fixes.ys[..b],
+        times: &case.fixes.times[..c],
+        marks: &case.fixes.marks[..d],
+        lens: case.lens,
+    };
+    ask_visits(m, case.asked, given, &mut floats[..f], &mut words[..w]);
 }
 
 // Asks a report of points in two slices, of which the case can make the second short, and prints the answer.
-fn print_points<F: FnOnce(&mut [f64], &mut [f64]) -> Result<usize, Refusal>>(s: Sizes, report: F)
-    requires small { s.room ≤ 8 }
-    requires callable { F.IsAlwaysCallable report }
+fn print_points<F: FnOnce(&mut [f64], &mut [f64]) -> Result<usize, Refusal>>(
+    asked: Asked,
+    report: F,
+)
+    requires { F.IsAlwaysCallable report }
 {
     let old = replay::float_of_bits(7);
     let mut xs = [old; 8];
     let mut ys = [old; 8];
-    let b = lent(s.room, 8, s.short);
-    print_reported(report(&mut xs[..s.room], &mut ys[..b]));
+    let b = lent(asked.room, Slice::SecondOutput, asked.short);
+    print_reported(report(&mut xs[..asked.room], &mut ys[..b]));
     replay::print_each(&xs, replay::print_float);
     replay::print_each(&ys, replay::print_float);
     replay::line_end();
 }
 
 // Asks for the labels of the places, and prints the answer.
-fn print_place_labels(m: Infostop, s: Sizes)
-    requires { s.room ≤ 8 }
-{
+fn print_place_labels(m: Infostop, asked: Asked) {
     let mut labels = [7i32; 8];
-    print_reported(reports::stationary::stationary_labels(m, &mut labels[..s.room]));
+    print_reported(reports::stationary::stationary_labels(m, &mut labels[..asked.room]));
     replay::print_each(&labels, replay::print_label);
     replay::line_end();
 }
@@ -157,61 +140,41 @@ fn count_up(labels: &mut [i32]) {
 }
 
 // Asks for the view of n labels, and prints the answer.
-fn print_view(lens: &[u32], n: usize, s: Sizes)
+fn print_view(lens: &[u32], n: usize, asked: Asked)
     requires { n ≤ 257 }
 {
     let mut labels = [0i32; 257];
     count_up(&mut labels);
-    let k = lent(n, 9, s.short);
-    let view = reports::view::trace_view(lens, &labels[..k], s.trace);
+    let k = lent(n, Slice::Labels, asked.short);
+    let view = reports::view::trace_view(lens, &labels[..k], asked.trace);
     replay::print_number(u64::from(view.refusal_number()));
     replay::print_each(view.labels, replay::print_label);
     replay::line_end();
 }
 
-fn print_all(
-    m: Infostop,
-    s: Sizes,
-    xs: &[f64],
-    ys: &[f64],
-    times: &[f64],
-    marks: &[u8],
-    lens: &[u32],
-)
-    requires { Columns (length xs.now) (length ys.now) (length times.now) (length marks.now) × (s.room ≤ 8) }
-{
-    print_visits(m, s, xs, ys, times, marks, lens);
+fn print_all(m: Infostop, case: Case) {
+    let asked = case.asked;
+    print_visits(m, case);
     print_points(
-        s,
+        asked,
         |xs, ys| reports::stationary::stationary_points(m, xs, ys),
     );
-    print_place_labels(m, s);
-    print_points(s, |xs, ys| reports::medians::label_medians(m, xs, ys));
-    print_view(lens, xs.len(), s);
+    print_place_labels(m, asked);
+    print_points(asked, |xs, ys| reports::medians::label_medians(m, xs, ys));
+    print_view(case.lens, case.fixes.xs.len(), asked);
 }
 
 // Fits in slices of the lengths that a fit of 8 places asks for, and hands back the model; a refused fit leaves it unfitted.
-fn fit(
-    model: Infostop,
-    xs: &[f64],
-    ys: &[f64],
-    times: &[f64],
-    marks: &[u8],
-    lens: &[u32],
-) -> Infostop
-    requires { length xs.now ≤ 257 }
+fn fit(model: Infostop, tracks: Tracks) -> Infostop
+    requires { length tracks.xs.now ≤ 257 }
 {
     let mut labels = [7i32; 257];
     let mut floats = [0.0f64; 1092];
     let mut words = [0i32; 1092];
-    let n = xs.len();
+    let n = tracks.xs.len();
     let end = 4 * n + 64;
     let f = model.fit_predict_many(
-        xs,
-        ys,
-        times,
-        marks,
-        lens,
+        tracks,
         &mut labels[..n],
         8,
         &mut floats[..end],
@@ -221,81 +184,70 @@ fn fit(
 }
 
 // Makes the model, fits the first traces, and asks for the reports. Refused settings leave a model that no fit alters.
-fn fit_and_report(
-    config: Config,
-    s: Sizes,
-    xs: &[f64],
-    ys: &[f64],
-    times: &[f64],
-    marks: &[u8],
-    lens: &[u32],
-)
-    requires { Columns (length xs.now) (length ys.now) (length times.now) (length marks.now) × Within s (length xs.now) (length lens.now) }
-{
+fn fit_and_report(config: Config, case: Case) {
     let made = Infostop::from_config(config);
-    let n = s.until;
-    let fitted = fit(
-        made.model,
-        &xs[..n],
-        &ys[..n],
-        &times[..n],
-        &marks[..n],
-        &lens[..s.fitted],
-    );
-    print_all(fitted, s, xs, ys, times, marks, lens);
+    let n = case.until;
+    let first = Tracks {
+        xs: &case.fixes.xs[..n],
+        ys: &case.fixes.ys[..n],
+        times: &case.fixes.times[..n],
+        marks: &case.fixes.marks[..n],
+        lens: &case.lens[..case.fitted],
+    };
+    let fitted = fit(made.model, first);
+    print_all(fitted, case);
 }
 
-// Reads n fixes, and answers.
-fn with_fixes(list: &mut Numbers, config: Config, s: Sizes, lens: &[u32], n: usize)
-    requires { (n ≤ 257) × Within s n (length lens.now) }
-{
-    let mut xs = [0.0f64; 257];
-    let mut ys = [0.0f64; 257];
-    let mut times = [0.0f64; 257];
-    let mut marks = [0u8; 257];
-    replay_case::read_fixes(list, n, &mut xs, &mut ys, &mut times, &mut marks);
-    fit_and_report(
-        config,
-        s,
-        &xs[..n],
-        &ys[..n],
-        &times[..n],
-        &marks[..n],
-        lens,
-    );
-}
-
-// Reads the fixes. A case with more than 257 fixes, or with more that are fitted than there are, is not answered.
-fn with_lens(list: &mut Numbers, config: Config, s: Sizes, lens: &[u32])
-    requires { (s.fitted ≤ length lens.now) × (s.room ≤ 8) }
+// Reads the fixes, and answers. A case with more than 257 fixes, or with more that are fitted than there are, is not answered.
+fn with_lens(
+    list: &mut Numbers,
+    config: Config,
+    asked: Asked,
+    lens: &[u32],
+    fitted: usize,
+    until: usize,
+)
+    requires { fitted ≤ length lens.now }
 {
     let n = replay_case::fix_count(lens);
     if 257 < n {
         io::write_all(STDOUT_FILENO, b"too many fixes\n");
-    } else if n < s.until {
+    } else if n < until {
         io::write_all(STDOUT_FILENO, b"too few fixes\n");
     } else {
-        with_fixes(list, config, s, lens, n);
+        let read = Fixes::<257>::read(list, n);
+        let fixes = read.first(n);
+        let case = Case {
+            asked,
+            fixes,
+            lens,
+            until,
+            fitted,
+        };
+        fit_and_report(config, case);
     }
 }
 
 // Answers a case. One for which there is no room is not answered.
 fn answer(list: &mut Numbers) {
-    let Head {
-        config,
-        sizes,
-        traces,
-    } = read::read_head(list);
-    if 257 < traces {
+    let head = read::read_head(list);
+    let room = head.room;
+    if 257 < head.traces {
         io::write_all(STDOUT_FILENO, b"too many traces\n");
-    } else if traces < sizes.fitted {
+    } else if head.traces < head.fitted {
         io::write_all(STDOUT_FILENO, b"too few traces\n");
-    } else if 8 < sizes.room {
+    } else if 8 < room {
         io::write_all(STDOUT_FILENO, b"too much room\n");
     } else {
+        let asked = Asked {
+            trace: head.trace,
+            room,
+            short: head.short,
+        };
         let mut lens = [0u32; 257];
-        replay_case::read_lens(list, &mut lens[..traces]);
-        with_lens(list, config, sizes, &lens[..traces]);
+        let traces = &mut lens[..head.traces];
+        replay_case::read_lens(list, traces);
+        with_lens(list, head.config, asked, traces, head.fitted, head.until);
     }
 }
 

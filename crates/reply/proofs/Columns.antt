@@ -21,7 +21,7 @@ use Rattle.infostop.specs.Fit.{refused, unless_refused}
 use Rattle.text.specs.declared.Input.{Input}
 use Rattle.text.specs.Values.{FixLine, Read, outside, inside, read, time_value, time_mark, with_fix, lengths_from, lengths_of, Columns}
 use Rattle.text.specs.Parsed.{Parsed, too_many, unless_many, at_most768, parsed, into, with_columns}
-use Rattle.text.specs.Pieces.{first_fixes}
+use Rattle.text.specs.Pieces.{first_fixes, ReadAs}
 use Rattle.print.specs.Lines.{refusal_text}
 use Rattle.print.specs.Written.{Writes}
 use Rattle.reply.specs.declared.Form.{Form}
@@ -63,6 +63,10 @@ unfolding first_fixes
 first_all ls h = take_all 768 ls h
 
 -- ---- the answer
+
+-- What was read into the fresh slices, as it is handed over.
+pub from_text : {t : List ℕ} {p : Parsed} {a b c : Columns} → a ≡ fresh_columns → c ≡ b → ReadAs a t p b → FromText t p c
+from_text e f r = rw (e, sym f) at r
 
 pub writes_as : {t u out out' : List ℕ} {r : ℕ} → t ≡ u → Writes t out r out' → Writes u out r out'
 writes_as {t} {u} {out} {out'} {r} e w = subst (λ (z : List ℕ). Writes z out r out') e w

@@ -5,6 +5,7 @@ use Rattle.float.specs.Binary64.{zero64}
 use Rattle.settings.specs.declared.config.Config.{Config}
 use Rattle.settings.specs.declared.refusal.Refusal.TheVariants.{Counts, Text}
 use Rattle.settings.specs.Settings.{check_config}
+use Rattle.trace.specs.declared.Tracks.{Tracks}
 use Rattle.infostop.specs.Fit.{Outcome, refused, fitted, unless_refused, fit}
 use Rattle.text.specs.Values.{FixLine, Read, outside, inside, read, xs_of, ys_of, times_of, marks_of, lengths_of, Columns, columns}
 use Rattle.text.specs.Parsed.{Parsed}
@@ -41,6 +42,10 @@ program_text form t = read_text form (read t)
 -- The slices that the program reads into, before it reads.
 abbrev pub fresh_columns : Columns
 fresh_columns = columns (replicate 768 zero64) (replicate 768 zero64) (replicate 768 zero64) (replicate 768 0) (replicate 768 0)
+
+-- The slices as they are handed over.
+abbrev pub columns_of : Tracks → Columns
+columns_of t = columns t.xs.now t.ys.now t.times.now t.marks.now t.lens.now
 
 -- p was read from the text t, and the slices c hold its first 768 fixes.
 abbrev pub FromText : List ℕ → Parsed → Columns → Type 0

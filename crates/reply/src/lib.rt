@@ -3,17 +3,22 @@
 #![tactic(auto)]
 
 ghost use Rattle.std.specs.Prelude.{List, ℕ};
-ghost use Rattle.text.specs.Values.{columns};
 ghost use Rattle.print.specs.Written.{Writes};
 ghost use Rattle.posting.specs.Steps.{SheetWithin};
-ghost use Rattle.reply.specs.Program.{labels_as, program_text, FromText, Answers};
+ghost use Rattle.reply.specs.Program.{labels_as, program_text, columns_of, FromText, Answers};
 ghost use Rattle.reply.specs.Steps.{Room, fit_text};
 
+use crate::arrays::Arrays;
 use infostop::model::Infostop;
 use settings::refusal::Refusal;
 use text::Input;
+use trace::Tracks;
+
+pub mod arrays;
 
 // How labels are printed: a line for each fix, as the program `stops` does, or as a posting sheet, as the program `sheet` does.
+// Kept as it is: an enum with one match (`print`) is today's form of such a switch; a closure in its place would have to be handed from the programs'
+// `main` through `answer_input` to `answer`, and `program_text`, which the theorems on whole programs speak of, would take a function for a name.
 #[derive(Clone, Copy, Debug, PartialEq, Eq)]
 pub enum Form {
     Lines,
@@ -34,38 +39,25 @@ impl Form {
     }
 }
 
-// The fit of the first fixes and traces of the columns, and its answer as a text.
-fn fit_text(
-    form: Form,
-    input: Input,
-    xs: &[f64],
-    ys: &[f64],
-    times: &[f64],
-    marks: &[u8],
-    lens: &[u32],
-    out: &mut [u8],
-) -> usize
-    requires { Room input (columns xs.now ys.now times.now marks.now lens.now) }
-    ensures { Writes (fit_text form input (columns xs.now ys.now times.now marks.now lens.now))
-        out.old result out.new }
+// The fit of the first fixes and traces of what was read, and its answer as a text.
+fn fit_text(form: Form, input: Input, read: Tracks, out: &mut [u8]) -> usize
+    requires { Room input (columns_of read) }
+    ensures { Writes (fit_text form input (columns_of read.entry)) out.old result out.new }
 {
     let n = input.fixes;
-    let lens = &lens[..input.traces];
+    let lens = &read.lens[..input.traces];
+    let tracks = Tracks {
+        xs: &read.xs[..n],
+        ys: &read.ys[..n],
+        times: &read.times[..n],
+        marks: &read.marks[..n],
+        lens,
+    };
     let model = Infostop::from_config(input.config).model;
     let mut labels = [-1; 768];
     let mut floats = [0.0; 7168];
     let mut words = [0; 3584];
-    let fit = model.fit_predict_many(
-        &xs[..n],
-        &ys[..n],
-        &times[..n],
-        &marks[..n],
-        lens,
-        &mut labels[..n],
-        64,
-        &mut floats,
-        &mut words,
-    );
+    let fit = model.fit_predict_many(tracks, &mut labels[..n], 64, &mut floats, &mut words);
     match fit.answer {
         Ok(_) => form.print(lens, &labels[..n], out),
         Err(e) => print::print_refusal(e, out),
@@ -73,23 +65,12 @@ fn fit_text(
 }
 
 // The answer to what was read, as a text.
-// Kept as it is: the columns are lent slices side by side, as a fit takes them.
-pub fn answer(
-    form: Form,
-    p: Result<Input, Refusal>,
-    xs: &[f64],
-    ys: &[f64],
-    times: &[f64],
-    marks: &[u8],
-    lens: &[u32],
-    out: &mut [u8],
-) -> usize
-    requires { (t : List ℕ) × FromText t p (columns xs.now ys.now times.now marks.now lens.now) }
-    ensures { Answers form p (columns xs.now ys.now times.now marks.now lens.now)
-        out.old result out.new }
+pub fn answer(form: Form, p: Result<Input, Refusal>, read: Tracks, out: &mut [u8]) -> usize
+    requires { (t : List ℕ) × FromText t p (columns_of read) }
+    ensures { Answers form p (columns_of read.entry) out.old result out.new }
 {
     match p {
-        Ok(input) => fit_text(form, input, xs, ys, times, marks, lens, out),
+        Ok(input) => fit_text(form, input, read, out),
         Err(e) => print::print_refusal(e, out),
     }
 }
@@ -98,20 +79,16 @@ pub fn answer(
 pub fn reply(form: Form, text: &[u8], out: &mut [u8]) -> usize
     ensures { Writes (program_text form text.now) out.old result out.new }
 {
-    let mut xs = [0.0; 768];
-    let mut ys = [0.0; 768];
-    let mut times = [0.0; 768];
-    let mut marks = [0u8; 768];
-    let mut lens = [0u32; 768];
+    let mut read = Arrays::<768>::filled(0.0, 0, 0);
     let r = text::feed(
         text::start(),
         text,
-        &mut xs,
-        &mut ys,
-        &mut times,
-        &mut marks,
-        &mut lens,
+        &mut read.xs,
+        &mut read.ys,
+        &mut read.times,
+        &mut read.marks,
+        &mut read.lens,
     );
     let p = text::finish(r);
-    answer(form, p, &xs, &ys, &times, &marks, &lens, out)
+    answer(form, p, read.tracks(), out)
 }

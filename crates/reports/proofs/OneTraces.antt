@@ -23,7 +23,7 @@ use Rattle.reports.specs.Examples
 use Rattle.reports.specs.Reports.{place_count}
 use Rattle.reports.specs.View.{trace_start}
 use Rattle.reports.specs.Visits.{visited_labels, trace_fixes}
-use Rattle.reports.specs.Steps.{OneTrace, medians_of, LabelledStays, VisitsAsked}
+use Rattle.reports.specs.Steps.{OneTrace, LabelledStays, VisitsAsked}
 use Rattle.reports.proofs.Starts.{start_within}
 
 -- The length of a trace, as a slice of one.
@@ -83,7 +83,7 @@ module _ {m : Infostop} {n count : ℕ} {xs ys ts : List Float} {ms lens : List 
 
     -- The medians of the trace's stays, by its parts of the columns.
     abbrev found : Config → List Point
-    found s = medians_of s (lent trace (trace + 1) lens) (part xs) (part ys) (part ts) (part ms)
+    found s = all_medians euclidean s (traces (lent trace (trace + 1) lens) (fixes (part xs) (part ys) (part ts) (part ms)))
 
     trace_medians : (s : Config) → found s ≡ stay_medians euclidean s (trace_fixes xs ys ts ms lens trace)
     unfolding trace_start

@@ -13,6 +13,7 @@ use Rattle.checks.proofs.Accepted.{report_accepted}
 -- Columns and trace lengths agree, and there is room for work.
 pub record Fitting (xs ys ts : List Float) (ms lens : List ℕ) (floats words : ℕ) : Type 0 where
   pub lengths : AllLengths (length xs) (length ys) (length ts) (length ms) (length xs) (4 * length xs) lens
+  pub few_traces : length lens ≤ 256
   pub floats_room : 4 * length xs ≤ floats
   pub words_room : 4 * length xs ≤ words
 
@@ -31,6 +32,7 @@ fitting xs ys ts ms lens floats words h =
         sum = t.agreed.sum;
         few = t.few_fixes;
       };
+      few_traces = t.few_traces;
       floats_room = omega (arith, a.1.floats_length);
       words_room = omega (arith, a.1.words_length);
     }

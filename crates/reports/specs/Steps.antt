@@ -2,11 +2,7 @@
 -- What the steps of the visits' code ask for and work out. Definitions only.
 use Rattle.std.specs.Prelude.{◌≡◌, ℕ, ◌+◌, ◌*◌, ◌<◌, ◌≤◌, List, ℤ, length, take, drop, Float}
 use Rattle.distance.specs.declared.Point.{Point}
-use Rattle.distance.specs.Distance.{euclidean}
-use Rattle.settings.specs.declared.config.Config.{Config}
-use Rattle.trace.specs.Trace.{fixes, traces}
 use Rattle.neighbors.specs.Places.{places_in}
-use Rattle.stay.specs.Stays.{all_medians}
 use Rattle.cluster.specs.FixLabels.{stay_labels}
 use Rattle.stay.specs.StepsAll.{AllLengths}
 use Rattle.infostop.specs.declared.model.Infostop.{Infostop}
@@ -19,10 +15,6 @@ pub record OneTrace (xs ys ts : List Float) (ms one : List ℕ) (floats : List F
   pub floats_room : 4 * length xs ≤ length floats
   pub words_room : length xs + length xs ≤ length words
 
--- The medians of the stays of traces of these lengths.
-abbrev pub medians_of : Config → List ℕ → List Float → List Float → List Float → List ℕ → List Point
-medians_of s lens xs ys ts ms = all_medians euclidean s (traces lens (fixes xs ys ts ms))
-
 -- The labels of a trace's r stays, at most n, which have the medians ms: behind the first n words.
 pub record LabelledStays (n : ℕ) (px py : List Float) (pl : List ℤ) (ms : List Point) (words : List ℤ) (r : ℕ) : Type 0 where
   pub few : r ≤ n
@@ -34,6 +26,7 @@ pub record VisitsAsked (m : Infostop) (n count : ℕ) (xs ys ts : List Float) (m
   pub lengths : AllLengths (length xs) (length ys) (length ts) (length ms) (length xs) (4 * length xs) lens
   pub floats_room : 4 * length xs ≤ floats
   pub words_room : 4 * length xs ≤ words
+  pub few_traces : length lens ≤ 256
   pub there : trace < length lens
   pub places : n ≡ place_count m
   pub labels : count ≡ labels_in (model_labels m)

@@ -21,6 +21,8 @@ fn label_end(k: i32) -> usize
 }
 
 // How many labels there are: one above the highest.
+// Kept as it is: beside `cluster::labels::label_count`, whose labels are u32 and have no -1. One function for both would be this fold over any
+// type of label, and each call would hand over a closure for what is one above a label: no plainer than two folds.
 pub fn label_count(labels: &[i32]) -> usize
     ensures { result ≡ labels_in labels.now }
 {
@@ -28,6 +30,8 @@ pub fn label_count(labels: &[i32]) -> usize
 }
 
 // f of each label below `count`, in order, to the front of `out`.
+// Kept as it is: a `for` over the labels. Over `out[..count].iter_mut().enumerate()` it would have the label and a reference to write through, in
+// place of the label and an index: no plainer.
 pub fn write_column<T: Copy, F: Fn(usize) -> T>(f: F, count: usize, out: &mut [T])
     requires callable { F.IsAlwaysCallable f }
     requires room { count ≤ length out.old }

@@ -15,6 +15,8 @@ pub struct View<'a> {
 
 impl View<'_> {
     // The number of the refusal, 0 where there is none.
+    // Kept as it is: a number is asked for here, as a list of cases prints it. Who wants the cause or that there is none has `checked`, and an `Option<u32>`
+    // would be that once more, with each cause as its number.
     pub fn refusal_number(&self) -> u32
         ensures { result ≡ refusal_number self.now.checked }
     {

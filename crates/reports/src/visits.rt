@@ -1,15 +1,18 @@
 // Visits: how many accepted stays of a trace have their median at a place of each label.
-// Kept as it is: the columns are lent slices side by side, as a fit takes them.
-ghost use Rattle.std.specs.Prelude.{◌≡◌, ◌≤◌, length};
+ghost use Rattle.std.specs.Prelude.{◌≡◌, ◌≤◌, [], length, get_or};
 ghost use Rattle.lists.specs.Lists.{overlay};
-ghost use Rattle.reports.specs.Visits.{visits_to, trace_visits, trace_fixes, VisitsReported};
-ghost use Rattle.reports.specs.Steps.{OneTrace, LabelledStays, medians_of, VisitsAsked};
+ghost use Rattle.distance.specs.Distance.{euclidean};
+ghost use Rattle.trace.specs.Given.{traces_of};
+ghost use Rattle.stay.specs.Stays.{all_medians};
+ghost use Rattle.reports.specs.Visits.{visits_to, trace_visits, VisitsReported};
+ghost use Rattle.reports.specs.Steps.{OneTrace, LabelledStays, VisitsAsked};
 
 use crate::labels::{is_label, label_count, write_column};
 use crate::shared::{check_model, trace_start};
 use infostop::model::Infostop;
 use settings::config::Config;
 use settings::refusal::Refusal;
+use trace::Tracks;
 
 // How many of the labels are l.
 fn visits_to(labels: &[i32], l: usize) -> u32
@@ -19,35 +22,22 @@ fn visits_to(labels: &[i32], l: usize) -> u32
     labels.iter().filter(|&&k| is_label(k, l)).count() as u32
 }
 
-// The labels of the stays of one trace, by the places px, py with the labels pl. They stand behind the first xs.len() words; it hands back how many.
+// The labels of the stays of one trace, by the places px, py with the labels pl. They stand behind as many words as the trace has fixes; it hands back how many.
 fn label_stays(
     px: &[f64],
     py: &[f64],
     pl: &[i32],
-    xs: &[f64],
-    ys: &[f64],
-    times: &[f64],
-    marks: &[u8],
-    one: &[u32],
+    t: Tracks,
     s: Config,
     floats: &mut [f64],
     words: &mut [i32],
 ) -> usize
-    requires { (OneTrace xs.now ys.now times.now marks.now one.now floats.old words.old) × (length py.now ≡ length px.now) }
-    ensures { LabelledStays (length xs.now) px.now py.now pl.now
-        (medians_of s one.now xs.now ys.now times.now marks.now) words.new result }
+    requires { (OneTrace t.xs.now t.ys.now t.times.now t.marks.now t.lens.now floats.old words.old) × (length py.now ≡ length px.now) }
+    ensures { LabelledStays (length t.entry.xs.now) px.now py.now pl.now
+        (all_medians euclidean s (traces_of t.entry)) words.new result }
 {
-    let n = xs.len();
-    let k = stay::all::all_stays(
-        xs,
-        ys,
-        times,
-        marks,
-        one,
-        s,
-        &mut floats[..4 * n],
-        &mut words[..n],
-    );
+    let n = t.xs.len();
+    let k = stay::all::all_stays(t, s, &mut floats[..4 * n], &mut words[..n]);
     cluster::fixes::stay_labels(
         &floats[2 * n..2 * n + k],
         &floats[3 * n..3 * n + k],
@@ -65,32 +55,31 @@ fn write_visits(
     m: Infostop,
     n: usize,
     count: usize,
-    xs: &[f64],
-    ys: &[f64],
-    times: &[f64],
-    marks: &[u8],
-    lens: &[u32],
+    tracks: Tracks,
     trace: usize,
     floats: &mut [f64],
     words: &mut [i32],
     out: &mut [u32],
 )
-    requires { VisitsAsked m n count xs.now ys.now times.now marks.now lens.now trace (length floats.old) (length words.old) (length out.old) }
-    ensures { out.new ≡ overlay (trace_visits m (trace_fixes xs.now ys.now times.now marks.now
-        lens.now trace)) out.old }
+    requires { VisitsAsked m n count tracks.xs.now tracks.ys.now tracks.times.now tracks.marks.now
+        tracks.lens.now trace (length floats.old) (length words.old) (length out.old) }
+    ensures { out.new ≡ overlay (trace_visits m (get_or (traces_of tracks.entry) trace [])) out.old }
 {
-    let at = trace_start(lens, trace);
-    let len = lens[trace] as usize;
+    let at = trace_start(tracks.lens, trace);
+    let len = tracks.lens[trace] as usize;
     let end = at + len;
+    let one = Tracks {
+        xs: &tracks.xs[at..end],
+        ys: &tracks.ys[at..end],
+        times: &tracks.times[at..end],
+        marks: &tracks.marks[at..end],
+        lens: &tracks.lens[trace..trace + 1],
+    };
     let k = label_stays(
         &m.xs[..n],
         &m.ys[..n],
         &m.labels[..n],
-        &xs[at..end],
-        &ys[at..end],
-        &times[at..end],
-        &marks[at..end],
-        &lens[trace..trace + 1],
+        one,
         m.config,
         floats,
         words,
@@ -104,25 +93,19 @@ fn write_visits(
 #[tactic(auto, using(crate::proofs::VisitReports::fitting), unfolding(crate::specs::Visits::check_visits, settings::specs::Checks::in_turn, settings::specs::Checks::first_of))]
 pub fn visits(
     m: Infostop,
-    xs: &[f64],
-    ys: &[f64],
-    times: &[f64],
-    marks: &[u8],
-    lens: &[u32],
+    tracks: Tracks,
     trace: usize,
     floats: &mut [f64],
     words: &mut [i32],
     out: &mut [u32],
 ) -> Result<usize, Refusal>
-    ensures { VisitsReported m xs.now ys.now times.now marks.now lens.now trace
-        floats.old words.old out.old result floats.new words.new out.new }
+    ensures { VisitsReported m tracks.entry.xs.now tracks.entry.ys.now tracks.entry.times.now tracks.entry.marks.now
+        tracks.entry.lens.now trace floats.old words.old out.old result floats.new words.new out.new }
 {
-    checks::check_report_tracks(xs, ys, times, marks, lens, floats.len(), words.len())?;
+    checks::check_report_tracks(tracks, floats.len(), words.len())?;
     let n = m.count.min(512);
     let count = label_count(&m.labels[..n]);
-    check_model(m.fitted, lens.len() <= trace || out.len() < count)?;
-    write_visits(
-        m, n, count, xs, ys, times, marks, lens, trace, floats, words, out,
-    );
+    check_model(m.fitted, tracks.lens.len() <= trace || out.len() < count)?;
+    write_visits(m, n, count, tracks, trace, floats, words, out);
     Ok(count)
 }

@@ -75,6 +75,7 @@ fn widen(to: &mut [u32], nodes: &[u16])
 }
 
 // Writes the order of visiting, and gives the generator's new state.
+#[tactic(auto, using(lists::proofs::Parts::lent_length, lists::proofs::Parts::back_length, lists::proofs::Parts::back_part))]
 pub fn draw_order(s: &mut [u32], rng: u64) -> u64
     requires { length s.old ≤ 512 }
     ensures { order rng (length s.old) ≡ record { list = s.new; rng = result } }

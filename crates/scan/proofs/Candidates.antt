@@ -1,8 +1,9 @@
 -- The candidates in rising order, taken one at a time as the lowest at or above a floor.
-use mathlib.Core.Path.{◌≡◌, refl, ap, ap₂, ◌∙◌}
+use mathlib.Core.Path.{◌≡◌, refl, ap, ◌∙◌}
 use mathlib.Core.Bool.{Bool, true, false, cond}
 use mathlib.Core.List.{List, [], ◌∷◌}
 use mathlib.Core.Logic.{inl, inr}
+use Rattle.std.specs.Prelude.{None}
 use Rattle.std.specs.List.{fold}
 use Prim.Native.Nat.{ℕ, max, zero, suc, ◌+◌, ◌<◌, ◌≤◌}
 use native.Mathlib.Omega.{arith}
@@ -16,10 +17,10 @@ use Rattle.lists.proofs.Tests.{clash}
 use Rattle.lists.proofs.Items.{All}
 use Rattle.float.specs.Binary64.{zero64}
 use Rattle.map_state.specs.Network.{Network, row}
-use Rattle.map_state.specs.MapState.{MapState, stats_of, delta_move, delta_from}
+use Rattle.map_state.specs.MapState.{MapState}
 use Rattle.scan.specs.Scan.{insert_group, candidates, consider, scan_from, scan, highest_from, Answer, no_move}
-use Rattle.scan.specs.Steps.{Next}
-use Rattle.map_state.specs.declared.ModuleStats.{ModuleStats}
+use Rattle.scan.specs.Steps.{Lowest, Next}
+use Rattle.scan.specs.declared.Candidate.{Candidate}
 
 abbrev RisingFrom : ℕ → List ℕ → Type 0
 RisingFrom f [] = Unit {0}
@@ -139,23 +140,21 @@ module _ (n : Network) (s : MapState) (u : ℕ) (part : List ℕ) (ws : List Flo
   unfolding scan_up_from scan
   scan_start p q = rw (up_same 0 (candidates part ws) (rising part ws), p, q)
 
-  pub scan_on : (a a' : Answer) (f v : ℕ) → Next part ws f (length part) v → v < length part → a' ≡ consider n s u a (get_or part v 0) → scan_up_from n s u part ws a' (get_or part v 0 + 1) ≡ scan_up_from n s u part ws a f
+  pub scan_on : (a a' : Answer) (f : ℕ) (c : Candidate) → Lowest part ws f (length part) c → a' ≡ consider n s u a (get_or part c.member 0) → scan_up_from n s u part ws a' (c.group + 1) ≡ scan_up_from n s u part ws a f
   unfolding scan_up_from scan_from
-  scan_on a a' f v x h e =
+  scan_on a a' f c x e =
+      let o = candidates_have part ws c.member x.inside x.near in
       rw (
-        up_next f 0 (get_or part v 0) (candidates part ws) (rising part ws) (candidates_have part ws v h (x.near h)) (x.up h)
-            (each (λ y. f ≤ y → get_or part v 0 ≤ y) part ws (λ w p t q. (x.least w p t q).1)),
+        up_next f 0 c.group (candidates part ws) (rising part ws) (rw (← x.number) at o) x.up
+            (each (λ y. f ≤ y → c.group ≤ y) part ws x.least),
         e,
-        add-one (get_or part v 0),
+        add-one c.group,
+        x.number,
       )
 
-  pub scan_end : (a : Answer) (f v : ℕ) → Next part ws f (length part) v → length part ≤ v → a ≡ scan_up_from n s u part ws a f
+  pub scan_end : (a : Answer) (f : ℕ) → Next part ws f (length part) None → a ≡ scan_up_from n s u part ws a f
   unfolding scan_up_from scan_from
-  scan_end a f v x h = rw (up_none f (candidates part ws) (each (λ y. y < f) part ws (λ w p t. below (ltb (get_or part w 0) f) w p t refl)))
-    where
-      below : (b : Bool) (w : ℕ) → w < length part → lt zero64 (get_or ws w nan) ≡ true → ltb (get_or part w 0) f ≡ b → get_or part w 0 < f
-      below true w p t q = ltb-true (get_or part w 0) f q
-      below false w p t q = let o = x.least w p t (ltb-false (get_or part w 0) f q) in absurd (omega arith)
+  scan_end a f x = rw (up_none f (candidates part ws) (each (λ y. y < f) part ws x))
 
 -- ---- the highest number
 highest_folded : (m : ℕ) (part : List ℕ) → fold max m part ≡ highest_from m part
@@ -168,8 +167,3 @@ highest_folded m (g ∷ gs) = highest_folded (max m g) gs ∙ ap (λ z. highest_
 
 pub highest_is : (part : List ℕ) {r : ℕ} → r ≡ fold max 0 part → r ≡ highest_from 0 part
 highest_is part e = e ∙ highest_folded 0 part
-
--- the change, with the two groups at hand
-pub delta_move_is : (n : Network) (s : MapState) (u h : ℕ) {o p : ModuleStats} {x : Float} → x ≡ delta_from n s.partition s.q_sum u h o p → o ≡ stats_of s (get_or s.partition u 0) → p ≡ stats_of s h → x ≡ delta_move n s u h
-unfolding delta_move
-delta_move_is n s u h e a b = e ∙ ap₂ (λ (y z : ModuleStats). delta_from n s.partition s.q_sum u h y z) a b

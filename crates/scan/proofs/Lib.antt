@@ -1,3 +1,2 @@
 -- Lemmas that belong to no one function.
-pub mod Floor
 pub mod Candidates

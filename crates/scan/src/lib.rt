@@ -1,7 +1,7 @@
 // The scan of a node: the best group among its neighbours', and the isolation test.
 #![tactic(auto)]
 
-ghost use Rattle.std.specs.Prelude.{◌≡◌, ◌+◌, ◌-◌, ◌*◌, ◌<◌, length, get_or};
+ghost use Rattle.std.specs.Prelude.{◌≡◌, ◌+◌, ◌-◌, ◌*◌, ◌<◌, ◌≤◌, length, get_or};
 ghost use Rattle.map_state.specs.Steps.{AtNode};
 ghost use Rattle.scan.specs.Scan.{best_delta, better, consider, scan, highest_from, next_free_module, isolate};
 ghost use Rattle.scan.specs.Steps.{answer_of, Next, AtPair, Testable};
@@ -14,6 +14,13 @@ use map_state::{MapState, ModuleStats, Network};
 pub enum Scan {
     Stay,
     Move(u32, f64),
+}
+
+// A group that a scan may try, and a neighbour in it.
+#[derive(Clone, Copy, Debug, PartialEq, Eq)]
+struct Candidate {
+    group: u32,
+    member: usize,
 }
 
 #[tactic(auto, unfolding(crate::specs::Scan::best_delta, crate::specs::Steps::answer_of))]
@@ -39,38 +46,37 @@ fn better(a: Scan, h: u32, d: f64) -> Scan
 }
 
 // One neighbour more.
-fn lower_candidate(partition: &[u32], row: &[f64], floor: usize, r: usize, v: usize) -> usize
-    requires { (length row.now ≡ length partition.now) × (v < length partition.now) × Next partition.now row.now floor v r }
+fn lower_candidate(
+    partition: &[u32],
+    row: &[f64],
+    floor: usize,
+    best: Option<Candidate>,
+    v: usize,
+) -> Option<Candidate>
+    requires { (length row.now ≡ length partition.now) × (v < length partition.now) × Next partition.now row.now floor v best }
     ensures { Next partition.now row.now floor (v + 1) result }
 {
-    if 0.0 < row[v] {
-        let x = partition[v] as usize;
-        if x < floor {
-            return r;
+    let group = partition[v];
+    if 0.0 < row[v] && floor <= group as usize {
+        match best {
+            Some(b) if b.group <= group => best,
+            _ => Some(Candidate { group, member: v }),
         }
-        if r < partition.len() {
-            let y = partition[r] as usize;
-            if x < y {
-                return v;
-            }
-            return r;
-        }
-        return v;
+    } else {
+        best
     }
-    r
 }
 
-// A neighbour in the lowest group at or above `floor`, or the number of nodes.
-// Kept as it is: with an Option for the neighbour `stops` takes 1.2 times as long on 64 places, with few links and with many.
-fn next_candidate(partition: &[u32], row: &[f64], floor: usize) -> usize
+// A neighbour in the lowest group at or above `floor`.
+fn next_candidate(partition: &[u32], row: &[f64], floor: usize) -> Option<Candidate>
     requires { length row.now ≡ length partition.now }
     ensures { Next partition.now row.now floor (length partition.now) result }
 {
-    let mut r = partition.len();
+    let mut best = None;
     for v in 0..partition.len() {
-        r = lower_candidate(partition, row, floor, r, v);
+        best = lower_candidate(partition, row, floor, best, v);
     }
-    r
+    best
 }
 
 // The group of v, against the best so far; `src` is u's own group.
@@ -97,11 +103,9 @@ pub fn scan_node(net: &Network, s: &MapState, u: usize) -> Scan
     let src = s.own_stats(u);
     let mut a = Scan::Stay;
     let mut floor = 0;
-    let mut v = next_candidate(partition, row, floor);
-    while v < partition.len() {
-        a = consider(net, s, u, src, v, a);
-        floor = partition[v] as usize + 1;
-        v = next_candidate(partition, row, floor);
+    while let Some(c) = next_candidate(partition, row, floor) {
+        a = consider(net, s, u, src, c.member, a);
+        floor = c.group as usize + 1;
     }
     a
 }

@@ -53,7 +53,7 @@ fn negative(x: f64) -> bool
 }
 
 // Whether x lies between zero and 2^-10, or above 10^6.
-#[tactic(auto, unfolding(crate::specs::Settings::out_of_bounds))]
+#[tactic(auto, unfolding(crate::specs::Settings::out_of_bounds, crate::proofs::Numbers::floats))]
 fn out_of_bounds(x: f64) -> bool
     ensures { result ≡ out_of_bounds x }
 {

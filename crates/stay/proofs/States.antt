@@ -9,12 +9,15 @@ use lib.IntN.{ℤ, pos, negsuc}
 use lib.ListN.{length, drop, take, set, replicate, length-append, length-replicate}
 use lib.Seq.{take_at, length-take-le}
 use lib.Ieee.{Float}
+use Rattle.std.specs.Prelude.{Option, is_some, IfSome}
+use Rattle.std.specs.Bool.{then_some}
+use Rattle.std.specs.Borrow.{Bor}
 use Rattle.distance.specs.declared.Point.{Point}
 use Rattle.settings.specs.declared.config.Config.{Config}
 use Rattle.stay.specs.declared.Open.{Open}
 use Rattle.stay.specs.StepsRegions.{insert_both, middle_in}
 use Rattle.stay.specs.StepsEvents.{event_number}
-use Rattle.stay.specs.Steps.{State, state_of, mid_of, with_point, closed_as, closed, step, join_test, elapsed, Room}
+use Rattle.stay.specs.Steps.{State, state_of, mid_of, with_point, closed_as, kept, closed, step, join_test, elapsed, times_in, Room}
 use Rattle.lists.proofs.Parts.{part_set, part_set_above, part_set_below}
 use Rattle.stay.proofs.Regions.{grown_x, grown_y, both_above}
 
@@ -50,6 +53,12 @@ module _ (q i : ℕ) (w : List Float) (l : List ℤ) (o : Open) (m : Point) (roo
   unfolding state_of closed_as event_number
   kept_none e = rw (sub_self i, e, events_closed (negsuc 0))
 
+-- a group closed where it passes a test, and the median handed over only there
+pub kept_where : (ok : Bool) (m : Point) (i : ℕ) (st : State) → kept (then_some ok m) i st ≡ closed_as ok m i st
+unfolding kept
+kept_where true m i st = refl
+kept_where false m i st = unfold closed_as in refl
+
 -- a point taken in
 pub grown_state : (q i len : ℕ) (w : List Float) (l : List ℤ) (o : Open) (p : Point) → o.start ≤ i → len ≡ i - o.start → len < q → 4 * q ≤ length w
     → state_of q (i + 1) (insert_both q len p.x p.y w) l o ≡ with_point p (state_of q i w l o)
@@ -65,6 +74,30 @@ grown_state q i len w l o p s e h f =
     )
 
 -- ---- the step
+
+-- what holds of the times holds of them where they are handed over
+pub if_handed : (b : Bool) {ts : Bor (List Float)} {o : Option (Bor (List Float))} (P : Bor (List Float) → Type 0) → o ≡ then_some b ts → P ts → IfSome o P
+if_handed b {ts} P e h = rw e (go b)
+  where
+    go : (c : Bool) → IfSome (then_some c ts) P
+    go true = h
+    go false = tt
+
+-- a step and the closing look at the times handed over only where the trace is timed
+module _ {t b : Bool} (ts : Bor (List Float)) {o : Option (Bor (List Float))} (timing : b ≡ t) (handed : o ≡ then_some b ts) where
+  pub step_seen : (dist : Point → Point → Float) (s : Config) (p : Point) (i : ℕ) (st : State) → step dist s (is_some o) (times_in o) p i st ≡ step dist s t ts.now p i st
+  step_seen dist s p i st = rw (handed, timing) (go t)
+    where
+      go : (c : Bool) → step dist s (is_some (then_some c ts)) (times_in (then_some c ts)) p i st ≡ step dist s c ts.now p i st
+      go true = unfold times_in in refl
+      go false = unfold times_in step closed elapsed in refl
+
+  pub closed_seen : (s : Config) (i : ℕ) (st : State) → closed s (is_some o) (times_in o) i st ≡ closed s t ts.now i st
+  closed_seen s i st = rw (handed, timing) (go t)
+    where
+      go : (c : Bool) → closed s (is_some (then_some c ts)) (times_in (then_some c ts)) i st ≡ closed s c ts.now i st
+      go true = unfold times_in in refl
+      go false = unfold times_in closed elapsed in refl
 
 module _ (dist : Point → Point → Float) (s : Config) (t : Bool) (ts : List Float) (p : Point) (i : ℕ) where
   pub step_joins : (st : State) → join_test t s (dist p (mid_of st)) (elapsed t ts (i - 1) i) ≡ true → step dist s t ts p i st ≡ with_point p st

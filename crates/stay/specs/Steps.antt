@@ -1,6 +1,7 @@
 -- Serves the contracts of this crate's own functions; no public contract reaches it.
 -- What the steps of `stays` ensure: the state that its slices stand for, and what each step makes of it.
-use Rattle.std.specs.Prelude.{ℕ, ◌+◌, ◌-◌, ◌*◌, ◌≤◌, ◌<◌, ◌^◌, ◌≡◌, Bool, true, not, ◌&&◌, ◌||◌, cond, List, [], ◌++◌, leb, ℤ, length, take, set, get_or, replicate, Float}
+use Rattle.std.specs.Prelude.{ℕ, ◌+◌, ◌-◌, ◌*◌, ◌≤◌, ◌<◌, ◌^◌, ◌≡◌, Bool, true, false, not, ◌&&◌, ◌||◌, cond, List, [], ◌++◌, leb, ℤ, length, take, set, get_or, replicate, Float, Option, None, Some}
+use Rattle.std.specs.Borrow.{Bor}
 use Rattle.std.specs.Float.{nan}
 use Rattle.std.specs.Float.Ieee.{le}
 use Rattle.float.specs.Binary64.{sub64, zero64}
@@ -12,6 +13,11 @@ use Rattle.stay.specs.Ordered.{insert_ordered, median}
 use Rattle.stay.specs.StepsOrdered.{in_order}
 use Rattle.lists.specs.StepsParts.{part}
 use Rattle.stay.specs.StepsEvents.{event_number}
+
+-- The times handed over: none of a trace that is not timed.
+unfoldable pub times_in : Option (Bor (List Float)) → List Float
+times_in None = []
+times_in (Some ts) = ts.now
 
 -- The time at b less that at a. Times are not looked at unless all are marked.
 unfoldable pub elapsed : Bool → List Float → ℕ → ℕ → Float
@@ -78,7 +84,12 @@ closed_as ok m i st =
       my = cond ok (set st.my st.stays m.y) st.my;
     }
 
--- The same with its median on the grid, as a stay where it passes the test.
+-- The same where the median is there only for a stay.
+unfoldable pub kept : Option Point → ℕ → State → State
+kept None i st = closed_as false (record { x = zero64; y = zero64 }) i st
+kept (Some m) i st = closed_as true m i st
+
+-- With its median on the grid, as a stay where it passes the test.
 unfoldable pub closed : Config → Bool → List Float → ℕ → State → State
 closed s t ts i st = closed_as (stay_test t s (i - st.start) (elapsed t ts st.start (i - 1))) (point_on_grid s.min_spatial_resolution (mid_of st)) i st
 

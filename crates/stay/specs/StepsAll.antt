@@ -3,7 +3,7 @@
 use Rattle.std.specs.Prelude.{ℕ, ◌+◌, ◌*◌, ◌≤◌, ◌≡◌, List, [], ◌∷◌, ◌++◌, ℤ, length, take, drop, Float}
 use Rattle.distance.specs.Distance.{Metric, euclidean, points}
 use Rattle.settings.specs.declared.config.Config.{Config}
-use Rattle.trace.specs.Trace.{Fix, fixes, total, traces}
+use Rattle.trace.specs.Trace.{Fix, total}
 use Rattle.stay.specs.Stays.{stay_medians, all_medians}
 use Rattle.stay.specs.StepsEvents.{event_map}
 
@@ -29,7 +29,3 @@ pub record AllFound (s : Config) (ts : List (List Fix)) (n : ℕ) (work : List F
   pub few : r ≤ n
   pub numbered : events ≡ all_events euclidean s 0 ts
   pub medians : points (take r (drop (2 * n) work)) (take r (drop (3 * n) work)) ≡ all_medians euclidean s ts
-
--- The same of the caller's columns.
-abbrev pub StaysFound : Config → List Float → List Float → List Float → List ℕ → List ℕ → List Float → List ℤ → ℕ → Type 0
-StaysFound s xs ys times marks lens work events r = AllFound s (traces lens (fixes xs ys times marks)) (length xs) work events r

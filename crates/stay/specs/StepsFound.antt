@@ -10,11 +10,8 @@ use Rattle.trace.specs.Trace.{Fix}
 use Rattle.stay.specs.Stays.{stay_medians}
 use Rattle.stay.specs.StepsEvents.{event_map}
 
--- The trace's slices are of one length n, and a quarter of the work slice has room for the stays so far and n more.
-pub record Lengths (n ys times marks events work found : ℕ) : Type 0 where
-  pub ys_length : ys ≡ n
-  pub times_length : times ≡ n
-  pub marks_length : marks ≡ n
+-- There is a number for each of n fixes, and a quarter of the work slice has room for the stays so far and n more.
+pub record Lengths (n events work found : ℕ) : Type 0 where
   pub events_length : events ≡ n
   pub room : 4 * (found + n) ≤ work
   pub numbers : found + n < 2 ^ 31

@@ -3,17 +3,18 @@
 
 pub mod all;
 
-ghost use Rattle.std.specs.Prelude.{◌≡◌, true, ◌++◌, ◌+◌, ◌<◌, ◌≤◌, length, take, drop};
+ghost use Rattle.std.specs.Prelude.{◌≡◌, true, ◌++◌, ◌+◌, ◌<◌, ◌≤◌, length, take, drop, is_some, IfSome};
 ghost use Rattle.distance.specs.Distance.{euclidean};
 ghost use Rattle.stay.specs.StepsOrdered.{in_order};
 ghost use Rattle.stay.specs.Ordered.{insertion_point, insert_ordered, median};
 ghost use Rattle.stay.specs.StepsRegions.{shifted, insert_both, middle_in, CanInsert};
-ghost use Rattle.trace.specs.Trace.{fixes};
-ghost use Rattle.stay.specs.Steps.{elapsed, join_test, stay_test, state_of, closed_as, closed, step, Room, Ready};
+ghost use Rattle.trace.specs.Given.{fixes_of};
+ghost use Rattle.stay.specs.Steps.{times_in, elapsed, join_test, stay_test, state_of, kept, closed, step, Room, Ready};
 ghost use Rattle.stay.specs.StepsFound.{Lengths, Found};
 
 use distance::Point;
 use settings::config::Config;
+use trace::Trace;
 
 // The open group: where it starts, and how many stays are before it.
 #[derive(Clone, Copy, Debug, PartialEq, Eq)]
@@ -22,12 +23,9 @@ pub struct Open {
     pub stays: usize,
 }
 
-// The times of a trace, which are looked at only where all are marked.
-#[derive(Clone, Copy)]
-struct Times<'a> {
-    at: &'a [f64],
-    timed: bool,
-}
+// The times of a trace where all are marked: those of another are not looked at.
+#[derive(Clone, Copy, Debug, PartialEq)]
+struct Times<'a>(Option<&'a [f64]>);
 
 // The place past the elements that are at most elem, by halving.
 fn insertion_point(s: &[f64], elem: f64) -> usize
@@ -94,66 +92,65 @@ fn middle(work: &[f64], q: usize, len: usize) -> Point
 
 impl Times<'_> {
     // The time at b less that at a, where the trace is timed.
-    #[tactic(auto, unfolding(crate::specs::Steps::elapsed))]
+    #[tactic(auto, unfolding(crate::specs::Steps::elapsed, crate::specs::Steps::times_in))]
     fn elapsed(self, a: usize, b: usize) -> f64
-        requires { (a < length self.at.now) × (b < length self.at.now) }
-        ensures { result ≡ elapsed self.entry.timed self.entry.at.now a b }
+        requires { IfSome self.0 (λ ts. (a < length ts.now) × (b < length ts.now)) }
+        ensures { result ≡ elapsed (is_some self.entry.0) (times_in self.entry.0) a b }
     {
-        if self.timed {
-            self.at[b] - self.at[a]
-        } else {
-            0.0
+        match self.0 {
+            Some(ts) => ts[b] - ts[a],
+            None => 0.0,
         }
     }
 
     // Whether a fix at distance d, a time of gap after the last, joins.
     #[tactic(auto, unfolding(crate::specs::Steps::join_test))]
     fn joins(self, s: Config, d: f64, gap: f64) -> bool
-        ensures { result ≡ join_test self.entry.timed s d gap }
+        ensures { result ≡ join_test (is_some self.entry.0) s d gap }
     {
-        d <= s.r1 && (!self.timed || gap <= s.max_time_between)
+        d <= s.r1 && (self.0.is_none() || gap <= s.max_time_between)
     }
 
     // Whether a closed group of n fixes over a time of span is a stay.
     #[tactic(auto, unfolding(crate::specs::Steps::stay_test))]
     fn is_stay(self, s: Config, n: usize, span: f64) -> bool
-        ensures { result ≡ stay_test self.entry.timed s n span }
+        ensures { result ≡ stay_test (is_some self.entry.0) s n span }
     {
-        s.min_size <= n && (!self.timed || s.min_staying_time <= span)
+        s.min_size <= n && (self.0.is_none() || s.min_staying_time <= span)
     }
 }
 
-// Kept as it is: a struct that held the lent slices `work` and `events` would need contracts on its borrows, which are no plainer.
-// The group o closed before fix i, as a stay with the median m or as none.
-#[tactic(auto, using(crate::proofs::States::kept_stay, crate::proofs::States::kept_none))]
+// Kept as it is: `work`, `events` and `q` go one by one. In a struct with `keep`, `close` and `next` as its methods each of the three would also have to
+// promise that both slices are the same ones, that `q` is the same, and that both are as long as before, which the check knows of a slice lent by itself;
+// the loop in `stays` would carry these five facts, and `insert_both` and `middle` would still be lent `work` and `q`.
+// The group o closed before fix i, as a stay where its median is handed over.
+#[tactic(auto, using(crate::proofs::States::kept_stay, crate::proofs::States::kept_none), unfolding(crate::specs::Steps::kept))]
 fn keep(
     work: &mut [f64],
     events: &mut [i32],
     q: usize,
     i: usize,
     o: Open,
-    m: Point,
-    ok: bool,
+    stay: Option<Point>,
 ) -> Open
     requires { Room q i o (length work.old) (length events.old) }
-    ensures { state_of q i work.new events.new result ≡ closed_as ok m i (state_of q i work.old events.old o) }
+    ensures { state_of q i work.new events.new result ≡ kept stay i (state_of q i work.old events.old o) }
 {
-    if ok {
-        events[o.start..i].fill(o.stays as i32);
-        work[2 * q + o.stays] = m.x;
-        work[3 * q + o.stays] = m.y;
-        Open {
-            start: i,
-            stays: o.stays + 1,
-        }
-    } else {
+    let Some(m) = stay else {
         events[o.start..i].fill(-1);
-        Open { start: i, ..o }
+        return Open { start: i, ..o };
+    };
+    events[o.start..i].fill(o.stays as i32);
+    work[2 * q + o.stays] = m.x;
+    work[3 * q + o.stays] = m.y;
+    Open {
+        start: i,
+        stays: o.stays + 1,
     }
 }
 
 // The open group closed before fix i, as a stay with its median on the grid or as none.
-#[tactic(auto, unfolding(crate::specs::Steps::closed, crate::specs::Steps::state_of, crate::specs::Steps::mid_of, crate::specs::StepsRegions::middle_in))]
+#[tactic(auto, using(crate::proofs::States::kept_where), unfolding(crate::specs::Steps::closed, crate::specs::Steps::state_of, crate::specs::Steps::mid_of, crate::specs::StepsRegions::middle_in))]
 fn close(
     times: Times,
     s: Config,
@@ -163,13 +160,20 @@ fn close(
     i: usize,
     o: Open,
 ) -> Open
-    requires { (i ≤ length times.at.now) × Room q i o (length work.old) (length events.old) }
-    ensures { state_of q i work.new events.new result ≡ closed s times.entry.timed times.entry.at.now i (state_of q i work.old events.old o) }
+    requires { IfSome times.0 (λ ts. i ≤ length ts.now) × Room q i o (length work.old) (length events.old) }
+    ensures { state_of q i work.new events.new result ≡ closed s (is_some times.entry.0) (times_in times.entry.0) i (state_of q i work.old events.old o) }
 {
     let len = i - o.start;
     let span = times.elapsed(o.start, i - 1);
     let m = distance::grid::point_on_grid(middle(work, q, len), s.min_spatial_resolution);
-    keep(work, events, q, i, o, m, times.is_stay(s, len, span))
+    keep(
+        work,
+        events,
+        q,
+        i,
+        o,
+        times.is_stay(s, len, span).then_some(m),
+    )
 }
 
 // One fix: it joins the open group, or closes it and opens the next.
@@ -183,8 +187,8 @@ fn next(
     i: usize,
     o: Open,
 ) -> Open
-    requires { (i < length times.at.now) × Ready q i o work.old (length events.old) }
-    ensures { state_of q (i + 1) work.new events.new result ≡ step euclidean s times.entry.timed times.entry.at.now p i (state_of q i work.old events.old o) }
+    requires { IfSome times.0 (λ ts. i < length ts.now) × Ready q i o work.old (length events.old) }
+    ensures { state_of q (i + 1) work.new events.new result ≡ step euclidean s (is_some times.entry.0) (times_in times.entry.0) p i (state_of q i work.old events.old o) }
 {
     let len = i - o.start;
     let m = middle(work, q, len);
@@ -201,35 +205,32 @@ fn next(
 
 // The stays of one trace: `found` is how many the traces before it have. It hands back how many there are, writes for each fix the number of
 // the accepted stay it lies in, or -1, and the stays' medians behind those of the traces before it.
-pub fn stays(
-    xs: &[f64],
-    ys: &[f64],
-    times: &[f64],
-    marks: &[u8],
-    s: Config,
-    work: &mut [f64],
-    found: usize,
-    events: &mut [i32],
-) -> usize
-    requires { Lengths (length xs.now) (length ys.now) (length times.now) (length marks.now) (length events.old) (length work.old) found }
-    ensures { Found s (fixes xs.now ys.now times.now marks.now) found work.old work.new events.new result }
+pub fn stays(t: Trace, s: Config, work: &mut [f64], found: usize, events: &mut [i32]) -> usize
+    requires { Lengths (length t.xs.now) (length events.old) (length work.old) found }
+    ensures { Found s (fixes_of t.entry) found work.old work.new events.new result }
 {
-    let n = xs.len();
+    let n = t.xs.len();
     if n == 0 {
         return 0;
     }
     let q = work.len() / 4;
-    let timed = trace::all_marked(marks);
-    let t = Times { at: times, timed };
-    insert_both(work, q, 0, Point { x: xs[0], y: ys[0] });
+    let times = Times(trace::all_marked(t.marks).then_some(t.times));
+    let first = Point {
+        x: t.xs[0],
+        y: t.ys[0],
+    };
+    insert_both(work, q, 0, first);
     let mut o = Open {
         start: 0,
         stays: found,
     };
     for i in 1..n {
-        let p = Point { x: xs[i], y: ys[i] };
-        o = next(p, t, s, work, events, q, i, o);
+        let p = Point {
+            x: t.xs[i],
+            y: t.ys[i],
+        };
+        o = next(p, times, s, work, events, q, i, o);
     }
-    let last = close(t, s, work, events, q, n, o);
+    let last = close(times, s, work, events, q, n, o);
     last.stays - found
 }

@@ -2,8 +2,10 @@
 use Rattle.std.proofs.Common.{◌≡◌, ℕ, ◌+◌, ◌<◌, ◌≤◌, Bool, true, false, leb, List, [], ◌∷◌, ◌++◌, length, get_or, set, drop, refl, ap, ◌∙◌, add-one, drop_of_length-le, drop-cons, leb-true}
 use lib.Ieee.{Float}
 use Rattle.text.specs.declared.state.State.{State}
+use Rattle.text.specs.declared.state.Stage.{Stage}
+use Rattle.text.specs.declared.state.Stage.TheVariants.{SettingNames, Settings, FixNames, Fixes, Outside}
 use Rattle.text.specs.declared.field.Field.{Field}
-use Rattle.text.specs.Machine.{field_at, fix_ok, Machine, step, run, machine, lexed, lexed_fields, judged, stored, set_if, sign_mark, signed_whole}
+use Rattle.text.specs.Machine.{field_at, set_line, fix_line, fix_ok, Machine, step, run, machine, lexed, lexed_fields, judged, stored, set_if, sign_mark, signed_whole}
 
 pub fix_size : (fs : List Field) (s : State) → fix_ok fs s ≡ true → (field_at fs 7).size ≤ 1000000000
 unfolding fix_ok
@@ -11,6 +13,18 @@ fix_size fs s e = go (leb (field_at fs 7).size 1000000000) refl where
   go : (t : Bool) → leb (field_at fs 7).size 1000000000 ≡ t → (field_at fs 7).size ≤ 1000000000
   go true h = leb-true _ _ h
   go false h = let f : false ≡ true = simp h at e in cc
+
+-- The line of settings is not the line of a fix.
+pub set_unstored : (s r : State) → set_line s ≡ true → stored s r ≡ false
+unfolding set_line stored fix_line
+set_unstored s r e = go s.stage refl
+  where
+    go : (g : Stage) → s.stage ≡ g → stored s r ≡ false
+    go SettingNames p = rw p
+    go Settings p = rw p
+    go FixNames p = rw p
+    go Fixes p = let f : false ≡ true = rw p at e in cc
+    go Outside p = rw p
 
 -- A loop over the bytes.
 pub run_on : (m m₁ : Machine) (text : List ℕ) (i : ℕ) {v : Machine} → i < length text → m₁ ≡ step m (get_or text i 0) → run m (drop i text) ≡ v

@@ -1,6 +1,6 @@
 // A line, judged when it is whole.
 ghost use Rattle.std.specs.Prelude.{◌≡◌, ◌≤◌};
-ghost use Rattle.text.specs.Machine.{set_line, fix_line, settings_ok, settled as Machine·settled, fix_ok, more as Machine·more, counted as Machine·counted, noted as Machine·noted, judged, stored as Machine·stored};
+ghost use Rattle.text.specs.Machine.{set_line, fix_line, settings_ok, settled, fix_ok, more as Machine·more, counted, noted, judged, stored};
 
 use crate::Reader;
 use crate::state::{Stage, State};
@@ -16,45 +16,34 @@ fn more(n: u64) -> u64
 impl State {
     // Behind the last field of the settings.
     #[tactic(auto, unfolding(crate::specs::Machine::set_line))]
-    fn set_line(self) -> bool
-        ensures { result ≡ set_line self }
+    fn set_line(&self) -> bool
+        ensures { result ≡ set_line self.now }
     {
         self.stage == Stage::Settings && self.k == 7
     }
 
     // Behind the last field of a fix.
     #[tactic(auto, unfolding(crate::specs::Machine::fix_line))]
-    fn fix_line(self) -> bool
-        ensures { result ≡ fix_line self }
+    fn fix_line(&self) -> bool
+        ensures { result ≡ fix_line self.now }
     {
         self.stage == Stage::Fixes && self.k == 11
     }
 
-    // After a fix of trace t.
+    // Behind a fix of trace t.
     #[tactic(auto, unfolding(crate::specs::Machine::counted, crate::specs::Machine::begun, crate::specs::Machine::more))]
-    fn counted(self, t: u64) -> State
+    fn count(&mut self, t: u64)
         requires { t ≤ 1000000000 }
-        ensures { result ≡ Machine·counted t self }
+        ensures { self.new ≡ counted t self.old }
     {
-        let len = if t == self.traces {
+        self.len = if t == self.traces {
             1
         } else {
-            more(u64::from(self.len))
+            more(u64::from(self.len)) as u32
         };
-        State {
-            fixes: more(self.fixes as u64) as usize,
-            traces: t + 1,
-            len: len as u32,
-            ..self.begun(Stage::Fixes, 7)
-        }
-    }
-
-    // Whether r, this state judged, has taken a fix that is one of the first 768.
-    #[tactic(auto, unfolding(crate::specs::Machine::stored))]
-    pub(crate) fn stored(self, r: State) -> bool
-        ensures { result ≡ Machine·stored self r }
-    {
-        self.fix_line() && r.stage == Stage::Fixes && self.fixes < 768
+        self.fixes = more(self.fixes as u64) as usize;
+        self.traces = t + 1;
+        self.begin(Stage::Fixes, 7);
     }
 }
 
@@ -75,13 +64,13 @@ impl Reader {
     }
 
     #[tactic(auto, unfolding(crate::specs::Machine::settled))]
-    fn settled(&self) -> State
-        ensures { result ≡ Machine·settled self.now.fields self.now.state }
+    fn settle(&mut self)
+        ensures { self.new ≡ record self.old { state = settled self.old.fields self.old.state } }
     {
         if self.settings_ok() {
-            self.state.begun(Stage::FixNames, 0)
+            self.state.begin(Stage::FixNames, 0);
         } else {
-            self.state.refused()
+            self.state.refuse();
         }
     }
 
@@ -99,26 +88,32 @@ impl Reader {
     }
 
     #[tactic(auto, using(crate::proofs::Run::fix_size), unfolding(crate::specs::Machine::noted))]
-    fn noted(&self) -> State
-        ensures { result ≡ Machine·noted self.now.fields self.now.state }
+    fn note(&mut self)
+        ensures { self.new ≡ record self.old { state = noted self.old.fields self.old.state } }
     {
         if self.fix_ok() {
-            self.state.counted(self.fields[7].size)
+            self.state.count(self.fields[7].size);
         } else {
-            self.state.refused()
+            self.state.refuse();
         }
     }
 
-    #[tactic(auto, unfolding(crate::specs::Machine::judged))]
-    pub(crate) fn judged(&self) -> State
-        ensures { result ≡ judged self.now.fields self.now.state }
+    // Judges the line, where it is whole. Whether a fix was taken, one of the first 768.
+    #[tactic(auto, using(crate::proofs::Run::set_unstored), unfolding(crate::specs::Machine::judged, crate::specs::Machine::stored))]
+    pub(crate) fn judge(&mut self) -> bool
+        ensures state { self.new.state ≡ judged self.old.fields self.old.state }
+        ensures fields { self.new.fields ≡ self.old.fields }
+        ensures stored { result ≡ stored self.old.state self.new.state }
     {
         if self.state.set_line() {
-            self.settled()
-        } else if self.state.fix_line() {
-            self.noted()
-        } else {
-            self.state
+            self.settle();
+            return false;
         }
+        if !self.state.fix_line() {
+            return false;
+        }
+        let n = self.state.fixes;
+        self.note();
+        self.state.stage == Stage::Fixes && n < 768
     }
 }

@@ -16,7 +16,6 @@ pub mod field;
 mod judge;
 mod machine;
 mod scan;
-mod slices;
 pub mod state;
 
 // What stands in a text beside the columns of its fixes: the settings, the number of fixes and of traces.
@@ -84,7 +83,9 @@ pub fn start() -> Reader
 }
 
 // Takes the next piece of a text. The columns of the first 768 fixes go into the slices, as far as there is room.
-// Kept as it is: the columns are lent slices side by side, as a fit takes them.
+// Kept as it is: five slices side by side. In a struct lent by `&mut`, as the one of `Output` in crate `print` is, each function on the way and each loop
+// would have to say of all five that they are still the caller's (`c.new.xs.ghost_name ≡ c.old.xs.ghost_name` and so on; tried: without that they are
+// unknown to the caller afterwards). Of a struct that is handed over by value the contract names the slices by place (`c.exit.1.1.1.0.now`: the marks).
 pub fn feed(
     mut r: Reader,
     text: &[u8],

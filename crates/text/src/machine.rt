@@ -4,7 +4,7 @@ ghost use Rattle.text.specs.Values.{columns};
 ghost use Rattle.text.specs.Machine.{step, holding};
 
 use crate::Reader;
-use crate::slices::put;
+use lists::put;
 
 impl Reader {
     #[tactic(auto, using(crate::proofs::Run::step_stored, crate::proofs::Run::step_unstored))]
@@ -21,13 +21,12 @@ impl Reader {
             ≡ step (holding self.old (columns xs.old ys.old times.old marks.old lens.old)) b }
     {
         self.lex(b);
-        let t = self.state;
-        self.state = self.judged();
-        if t.stored(self.state) {
-            put(xs, t.fixes, self.fields[8].value());
-            put(ys, t.fixes, self.fields[9].value());
-            put(times, t.fixes, self.fields[10].value());
-            put(marks, t.fixes, self.fields[10].sign.mark());
+        let n = self.state.fixes;
+        if self.judge() {
+            put(xs, n, self.fields[8].value());
+            put(ys, n, self.fields[9].value());
+            put(times, n, self.fields[10].value());
+            put(marks, n, self.fields[10].sign.mark());
             put(lens, self.fields[7].size as usize, self.state.len);
         }
     }

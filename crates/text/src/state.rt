@@ -1,6 +1,6 @@
-// Where the machine is in a text, and the changes of that.
+// Where the machine is in a text, and the changes of that. Each is made in place, field by field: a text has thousands of bytes.
 ghost use Rattle.std.specs.Prelude.{◌≡◌};
-ghost use Rattle.text.specs.Machine.{initial as Machine·initial, refused as Machine·refused, begun as Machine·begun, signed as Machine·signed, grown as Machine·grown, ended as Machine·ended};
+ghost use Rattle.text.specs.Machine.{initial as Machine·initial, refused, begun, signed, grown, ended as Machine·ended};
 
 // The part of a text that the machine is in; `Outside`: the text is not in the form.
 #[derive(Clone, Copy, Debug, PartialEq, Eq)]
@@ -14,6 +14,8 @@ pub enum Stage {
 
 // k: the byte of the names, or the field; the settings are fields 0 to 6, a fix 7 to 10. minus, digit, value: of the field so far. fixes: their number, up
 // to 769. traces: their number. len: the number of fixes in the last trace.
+// Kept as it is: `digit` beside `value`. Where there is no digit yet, `value` is read as 0: by the next digit, by the bound before it, and as the size of an
+// empty field. An `Option<u64>` would be `unwrap_or(0)` at each of these, and `is_some()` at each place that now reads `digit`.
 #[derive(Clone, Copy, Debug, PartialEq, Eq)]
 pub struct State {
     pub stage: Stage,
@@ -46,57 +48,45 @@ impl State {
 
     // Not in the form, from here on.
     #[tactic(auto, unfolding(crate::specs::Machine::refused))]
-    pub fn refused(self) -> State
-        ensures { result ≡ Machine·refused self }
+    pub fn refuse(&mut self)
+        ensures { self.new ≡ refused self.old }
     {
-        State {
-            stage: Stage::Outside,
-            ..self
-        }
+        self.stage = Stage::Outside;
     }
 
-    // At the start of field or byte k of a stage.
+    // To the start of field or byte k of a stage.
     #[tactic(auto, unfolding(crate::specs::Machine::begun))]
-    pub fn begun(self, stage: Stage, k: usize) -> State
-        ensures { result ≡ Machine·begun self stage k }
+    pub fn begin(&mut self, stage: Stage, k: usize)
+        ensures { self.new ≡ begun self.old stage k }
     {
-        State {
-            stage,
-            k,
-            minus: false,
-            digit: false,
-            value: 0,
-            ..self
-        }
+        self.stage = stage;
+        self.k = k;
+        self.minus = false;
+        self.digit = false;
+        self.value = 0;
     }
 
-    // After a minus.
+    // A minus.
     #[tactic(auto, unfolding(crate::specs::Machine::signed))]
-    pub fn signed(self) -> State
-        ensures { result ≡ Machine·signed self }
+    pub fn sign(&mut self)
+        ensures { self.new ≡ signed self.old }
     {
-        State {
-            minus: true,
-            ..self
-        }
+        self.minus = true;
     }
 
-    // After digits of value v.
+    // A digit, by which the value becomes this.
     #[tactic(auto, unfolding(crate::specs::Machine::grown))]
-    pub fn grown(self, value: u64) -> State
-        ensures { result ≡ Machine·grown self value }
+    pub fn grow(&mut self, value: u64)
+        ensures { self.new ≡ grown self.old value }
     {
-        State {
-            digit: true,
-            value,
-            ..self
-        }
+        self.digit = true;
+        self.value = value;
     }
 
     // Whether the text may end here.
     #[tactic(auto, unfolding(crate::specs::Machine::ended))]
-    pub fn ended(self) -> bool
-        ensures { result ≡ Machine·ended self }
+    pub fn ended(&self) -> bool
+        ensures { result ≡ Machine·ended self.now }
     {
         self.stage == Stage::Fixes && self.k == 7 && !self.minus && !self.digit
     }

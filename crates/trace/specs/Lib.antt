@@ -1,4 +1,5 @@
 pub mod Trace
 pub mod WithoutEmpty
+pub mod Given
 pub mod Steps
 pub mod Examples

@@ -1,23 +1,33 @@
--- `cluster::group_and_label` meets its contract.
-use mathlib.Core.Path.{sym, ap, ◌∙◌}
+-- `cluster::group_and_label` meets its contract. The groups stand in front of an array.
+use mathlib.Core.Path.{◌≡◌, sym, ap, ◌∙◌}
+use Prim.Native.Nat.{ℕ, ◌≤◌}
 use native.Mathlib.Omega.{arith}
+use lib.ListN.{length, take, replicate}
+use lib.Seq.{length-take-le, take_at}
 use Rattle.map_state.specs.Network.{Network}
 use Rattle.infomap.specs.Infomap.{run_infomap}
 use Rattle.cluster.proofs.Clustered.{labels_few, network_front, cluster_is}
 use Rattle.cluster.proofs.group_and_label.Goals as goal
 
+-- k groups in front of 512 numbers
+front : (k : ℕ) → k ≤ 512 → length {A = ℕ} (take k (replicate 512 0)) ≡ k
+front k h = length-take-le k (replicate 512 0) h
+
 pub label_places-requires : goal.label_places-requires
 label_places-requires c =
-    let p = c.requires in (
-      omega (arith, p.3, p.0),
-      omega
-          (arith, labels_few _ _ _ c.run_infomap-kept.ensures, c.run_infomap-kept.auto.labels, p.2, p.4.few, p.0),
+    let p = c.requires in
+    let g = c.run_infomap-kept in
+    let long : length g.new.labels ≡ length c.args.linked.now = g.auto.labels ∙ front _ (omega (arith, p.3.few, p.0)) in (
+      omega (arith, p.2, p.0),
+      rw (take_at g.new.labels _ _ long) (omega (arith, labels_few _ _ _ g.ensures, long, p.3.few, p.0)),
     )
 
 pub returns : goal.returns
 returns c =
     let p = c.requires in
-    λ dist r2 ps e w q. cluster_is dist r2 ps _ _ _ q (p.3 ∙ sym e)
-    (c.run_infomap-kept.ensures ∙ ap (λ (x : Network). run_infomap x c.args.seed)
-    (network_front dist r2 ps _ _ _ _ q p.4 w c.compact.ensures (c.compact.auto.table ∙ p.1) p.2))
-    c.label_places.ensures
+    let g = c.run_infomap-kept in
+    let room = front (length c.args.linked.now) (omega (arith, p.3.few, p.0)) in
+    λ dist r2 ps e w q. cluster_is dist r2 ps _ _ _ q (p.2 ∙ sym e)
+    (g.ensures ∙ ap (λ (x : Network). run_infomap x c.args.seed)
+    (network_front dist r2 ps _ _ _ _ q p.3 w c.compact.ensures (c.compact.auto.table ∙ p.1) room))
+    (rw (take_at g.new.labels _ _ (g.auto.labels ∙ room)) at c.label_places.ensures)

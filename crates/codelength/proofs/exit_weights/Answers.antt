@@ -1,10 +1,7 @@
 -- `codelength::exit_weights` meets its contract. The loop: what is left to add, added to the sum so far, is the whole sum.
-use mathlib.Core.Path.{refl, ◌∙◌}
+use mathlib.Core.Path.{◌∙◌}
 use Rattle.codelength.proofs.Sums.{out_on, out_end}
 use Rattle.codelength.proofs.exit_weights.Goals as goal
-
-pub loop-v-init : goal.loop-v-init
-loop-v-init c = refl
 
 pub loop-v-preserved : goal.loop-v-preserved
 loop-v-preserved c =

@@ -1,12 +1,9 @@
 -- `codelength::node_plogp_sum` meets its contract. The loop: what is left to add, added to the sum so far, is the whole sum.
-use mathlib.Core.Path.{refl, ◌∙◌, ap}
+use mathlib.Core.Path.{◌∙◌, ap}
 use lib.Ieee.{Float}
 use Rattle.float.specs.Binary64.{add64}
 use Rattle.codelength.proofs.Sums.{nodes_on, nodes_end}
 use Rattle.codelength.proofs.node_plogp_sum.Goals as goal
-
-pub loop-s-init : goal.loop-s-init
-loop-s-init c = refl
 
 pub loop-s-preserved : goal.loop-s-preserved
 loop-s-preserved c =

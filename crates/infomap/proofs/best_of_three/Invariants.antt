@@ -10,5 +10,4 @@ abbrev pub invariant-loop : goal.invariant-loop
 invariant-loop l = record {
   left : trials l.net (3 - l.counter) l.x (grouping_of l.best l.k) ≡ best_of_three l.net l.fn.rng;
   long : length l.best ≡ length l.fn.best;
-  nodes : length l.net.strength ≡ length l.t.state.partition;
 }

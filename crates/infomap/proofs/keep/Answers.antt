@@ -1,16 +1,10 @@
 -- `infomap::keep` meets its contract.
-use mathlib.Core.Path.{sym, ◌∙◌, ap}
-use lib.ListN.{length}
+use mathlib.Core.Path.{◌∙◌, ap}
 use Rattle.map_state.specs.MapState.{MapState}
 use Rattle.optimize.specs.Steps.{run_of}
 use Rattle.infomap.specs.Steps.{grouping_of}
 use Rattle.infomap.proofs.Trials.{keep_yes, keep_no}
 use Rattle.infomap.proofs.keep.Goals as goal
-
-pub copy_from_slice-requires : goal.copy_from_slice-requires
-copy_from_slice-requires c =
-    let e = ap (λ (s : MapState). s.partition) c.map_equation-l.ensures.1 in
-    c.requires.1 ∙ sym (ap length (c.partition.ensures.0 ∙ e))
 
 pub returns-then-l-k : goal.returns-then-l-k
 returns-then-l-k c =

@@ -1,11 +1,7 @@
 -- `map_state::total_weight` meets its contract. The loop: the links of the nodes from u on, added to the sum so far, give the total.
 use mathlib.Core.Path.{◌∙◌}
-use native.Mathlib.Nat.{sub-zero}
 use Rattle.map_state.proofs.Rows.{row_above, total_on, total_end}
 use Rattle.map_state.proofs.total_weight.Goals as goal
-
-pub loop-u-init : goal.loop-u-init
-loop-u-init c = rw sub-zero
 
 pub loop-u-preserved : goal.loop-u-preserved
 loop-u-preserved c =

@@ -1,5 +1,5 @@
 -- `optimize::run_rounds` meets its contract. The loop: the rounds that are left, from the state so far, give the whole run. Numbers grow by 512 a round.
-use mathlib.Core.Path.{refl, sym, ◌∙◌, ap}
+use mathlib.Core.Path.{sym, ◌∙◌, ap}
 use native.Mathlib.Omega.{arith}
 use Prim.Native.Nat.{◌+◌, ◌*◌, ◌≤◌}
 use lib.ListN.{length}
@@ -8,16 +8,6 @@ use Rattle.optimize.specs.Steps.{run_of}
 use Rattle.optimize.proofs.Numbers.{at_most_more}
 use Rattle.optimize.proofs.Rounds.{rounds_on, rounds_rest, rounds_end, run_at_most, run_counts, visits_on, visits_rest, visits_end, round_length}
 use Rattle.optimize.proofs.run_rounds.Goals as goal
-
-pub loop-init : goal.loop-init
-loop-init c = record {
-  left = refl;
-  visits = refl;
-  long = refl;
-  room = refl;
-  count = c.requires.1;
-  most = at_most_more 512 _ c.args.r.now.state.partition (omega arith) c.requires.0.3;
-}
 
 pub round-requires : goal.round-requires
 round-requires c =

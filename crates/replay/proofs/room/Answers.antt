@@ -1,5 +1,5 @@
 -- `replay::room` meets its contract.
-use Rattle.std.proofs.Common.{◌≡◌, ℕ, length, replicate, sym}
+use Rattle.std.proofs.Common.{◌≡◌, ℕ, length, replicate, refl, sym}
 use lib.ListN.{length-replicate}
 use Rattle.replay.proofs.room.Goals as goal
 
@@ -8,4 +8,4 @@ long : (n : ℕ) → n ≡ length {A = ℕ} (replicate n 0)
 long n = sym (length-replicate n 0)
 
 pub returns : goal.returns
-returns c = long 1000000
+returns c = (long 1000000, refl)

@@ -5,4 +5,4 @@ use Rattle.scan.specs.Steps.{Next}
 use Rattle.scan.proofs.next_candidate.Given as goal
 
 abbrev pub invariant-loop-v : goal.invariant-loop-v
-invariant-loop-v l = Next l.partition l.row l.floor l.v l.r × (l.v ≤ length l.partition)
+invariant-loop-v l = Next l.partition l.row l.floor l.v l.best × (l.v ≤ length l.partition)

@@ -2,9 +2,10 @@
 use mathlib.Core.Path.{◌≡◌, refl, sym, ap, ◌∙◌}
 use Prim.Native.Nat.{◌-◌}
 use native.Mathlib.Omega.{arith}
+use Rattle.std.specs.Prelude.{is_some}
 use Rattle.distance.specs.Distance.{euclidean}
 use Rattle.stay.specs.StepsOrdered.{in_order}
-use Rattle.stay.specs.Steps.{State, state_of, closed, closed_as, with_point}
+use Rattle.stay.specs.Steps.{State, state_of, closed, closed_as, with_point, times_in}
 use Rattle.stay.proofs.States.{grown_state, step_joins, step_closes, test_is}
 use Rattle.stay.proofs.next.Goals as goal
 
@@ -16,8 +17,8 @@ returns-then-joins c =
     rw c.insert_both.ensures
     (grown_state a.q a.i (a.i - a.o.start) a.work.now a.events.now a.o a.p (omega arith) refl (omega arith)
     p.room.parts ∙ sym
-    (step_joins euclidean a.s a.times.timed a.times.at.now a.p a.i st
-    (test_is euclidean a.s a.times.timed a.times.at.now a.p a.i a.q a.work.now a.events.now a.o
+    (step_joins euclidean a.s (is_some a.times.0) (times_in a.times.0) a.p a.i st
+    (test_is euclidean a.s (is_some a.times.0) (times_in a.times.0) a.p a.i a.q a.work.now a.events.now a.o
     c.middle-m.ensures c.distance-d.ensures.equation c.elapsed-gap.ensures
     c.joins.ensures c.if-joins.true)))
 
@@ -37,7 +38,7 @@ returns c =
     rw c.insert_both-2.ensures
     (grown_state a.q a.i 0 c.close-n.new.work c.close-n.new.events c.close-n.result
     a.p (omega arith) (omega arith) (omega arith) (omega (arith, c.close-n.auto.work)) ∙ ap (with_point a.p) e ∙ sym
-    (step_closes euclidean a.s a.times.timed a.times.at.now a.p a.i st
-    (test_is euclidean a.s a.times.timed a.times.at.now a.p a.i a.q a.work.now a.events.now a.o
+    (step_closes euclidean a.s (is_some a.times.0) (times_in a.times.0) a.p a.i st
+    (test_is euclidean a.s (is_some a.times.0) (times_in a.times.0) a.p a.i a.q a.work.now a.events.now a.o
     c.middle-m.ensures c.distance-d.ensures.equation c.elapsed-gap.ensures
     c.joins.ensures c.if-joins.false)))

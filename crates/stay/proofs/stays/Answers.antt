@@ -7,8 +7,10 @@ use lib.Ieee.{nan}
 use Rattle.distance.specs.declared.Point.{Point}
 use Rattle.distance.specs.Distance.{euclidean}
 use Rattle.stay.specs.StepsOrdered.{in_order}
-use Rattle.trace.specs.Trace.{fixes}
+use Rattle.trace.specs.Given.{fixes_of}
+use Rattle.trace.specs.Steps.{all_marked}
 use Rattle.stay.specs.Steps.{state_of, step}
+use Rattle.stay.proofs.States.{if_handed, step_seen, closed_seen}
 use Rattle.stay.proofs.Whole.{Sound, sound_step, sound_first, run_on, point_is, last_state, enough, whole, nothing}
 use borrow.Author.Rules.{rules}
 use Rattle.stay.proofs.stays.Goals as goal
@@ -16,7 +18,7 @@ use Rattle.stay.proofs.stays.Goals as goal
 pub returns-then-n-eq0 : goal.returns-then-n-eq0
 returns-then-n-eq0 c =
     let a = c.args in
-    nothing a.s a.xs.now a.ys.now a.times.now a.marks.now a.found a.work.now a.events.now c.if-n-eq0.true
+    nothing a.s a.t.xs.now a.t.ys.now a.t.times.now a.t.marks.now a.found a.work.now a.events.now c.if-n-eq0.true
     (omega (arith, c.requires.events_length, c.if-n-eq0.true))
 
 pub insert_both-requires : goal.insert_both-requires
@@ -29,7 +31,7 @@ loop-i-init c =
     let p = c.requires in (
       refl,
       rw c.insert_both.ensures
-          (sound_first a.s a.xs.now a.ys.now a.times.now a.marks.now p.ys_length p.times_length p.marks_length
+          (sound_first a.s a.t.xs.now a.t.ys.now a.t.times.now a.t.marks.now a.t.ys_length a.t.times_length a.t.marks_length
           a.found (omega arith) (length a.work.now / 4) a.work.now a.events.now (omega arith) (omega arith)),
     )
 
@@ -38,7 +40,7 @@ unfolding state_of
 next-o-requires c =
     let l = c.loop-i in
     let h = l.invariant.1 in (
-      omega arith,
+      if_handed _ (λ ts. l.i < length ts.now) c.then_some.ensures (omega (arith, c.args.t.times_length)),
       record {
         room = record {
           before = h.before;
@@ -61,16 +63,16 @@ loop-i-preserved c =
     let l = c.loop-i in
     let q = length a.work.now / 4 in
     let st = state_of q l.i l.work l.events l.o in
-    let tm = c.all_marked-timed.result in
-    let e = c.next-o.ensures in (
-      run_on euclidean a.s tm a.times.now (fixes a.xs.now a.ys.now a.times.now a.marks.now) l.i (length a.xs.now) st
+    let tm = all_marked a.t.marks.now in
+    let e = c.next-o.ensures ∙ step_seen a.t.times c.all_marked.ensures c.then_some.ensures euclidean a.s _ l.i st in (
+      run_on euclidean a.s tm a.t.times.now (fixes_of a.t) l.i (length a.t.xs.now) st
           _ c.loop-i-test.true
-          (e ∙ ap (λ (z : Point). step euclidean a.s tm a.times.now z l.i st)
-          (point_is a.s a.xs.now a.ys.now a.times.now a.marks.now p.ys_length p.times_length p.marks_length
+          (e ∙ ap (λ (z : Point). step euclidean a.s tm a.t.times.now z l.i st)
+          (point_is a.s a.t.xs.now a.t.ys.now a.t.times.now a.t.marks.now a.t.ys_length a.t.times_length a.t.marks_length
           a.found l.i c.loop-i-test.true))
           ∙ l.invariant.0,
       subst (Sound a.found (l.i + 1)) (sym e)
-          (sound_step euclidean a.s tm a.times.now (record { x = get_or a.xs.now l.i nan; y = get_or a.ys.now l.i nan })
+          (sound_step euclidean a.s tm a.t.times.now (record { x = get_or a.t.xs.now l.i nan; y = get_or a.t.ys.now l.i nan })
           a.found l.i st l.invariant.1),
     )
 
@@ -79,7 +81,7 @@ unfolding state_of
 close-last-requires c =
     let l = c.loop-i in
     let h = l.invariant.1 in (
-      omega (arith, c.requires.times_length),
+      if_handed _ (λ ts. length c.args.t.xs.now ≤ length ts.now) c.then_some.ensures (omega (arith, c.args.t.times_length)),
       record {
         before = omega (arith, h.before);
         group = omega (arith, c.insert_both.auto.work, c.requires.room);
@@ -95,31 +97,31 @@ overflow_sub-result c =
     let a = c.args in
     let p = c.requires in
     let l = c.loop-i in
-    let some_fix : 0 < length a.xs.now = omega (arith, c.if-n-eq0.false) in
+    let some_fix : 0 < length a.t.xs.now = omega (arith, c.if-n-eq0.false) in
     let some_room : 0 < length a.work.now / 4 = omega (arith, p.room, some_fix) in
     let fits : 4 * (length a.work.now / 4) ≤ length a.work.now = omega arith in
-    enough a.s a.xs.now a.ys.now a.times.now a.marks.now p.ys_length p.times_length p.marks_length a.found
+    enough a.s a.t.xs.now a.t.ys.now a.t.times.now a.t.marks.now a.t.ys_length a.t.times_length a.t.marks_length a.found
     some_fix (length a.work.now / 4) a.work.now a.events.now some_room fits c.close-last.new.work
-    c.close-last.new.events c.close-last.result (last_state a.s a.xs.now a.ys.now a.times.now a.marks.now p.ys_length p.times_length p.marks_length a.found
-    some_fix (length a.work.now / 4) a.work.now a.events.now some_room fits c.all_marked-timed.result
+    c.close-last.new.events c.close-last.result (last_state a.s a.t.xs.now a.t.ys.now a.t.times.now a.t.marks.now a.t.ys_length a.t.times_length a.t.marks_length a.found
+    some_fix (length a.work.now / 4) a.work.now a.events.now some_room fits (all_marked a.t.marks.now)
     c.insert_both.new.work l.work _ l.events _ l.o c.close-last.result l.i
-    c.all_marked-timed.ensures c.insert_both.ensures c.loop-i-test.false (omega arith) l.invariant.0
-    c.close-last.ensures)
+    refl c.insert_both.ensures c.loop-i-test.false (omega arith) l.invariant.0
+    (c.close-last.ensures ∙ closed_seen a.t.times c.all_marked.ensures c.then_some.ensures a.s _ _))
 
 pub returns : goal.returns
 returns c =
     let a = c.args in
     let p = c.requires in
     let l = c.loop-i in
-    let some_fix : 0 < length a.xs.now = omega (arith, c.if-n-eq0.false) in
+    let some_fix : 0 < length a.t.xs.now = omega (arith, c.if-n-eq0.false) in
     let some_room : 0 < length a.work.now / 4 = omega (arith, p.room, some_fix) in
     let fits : 4 * (length a.work.now / 4) ≤ length a.work.now = omega arith in
-    whole a.s a.xs.now a.ys.now a.times.now a.marks.now p.ys_length p.times_length p.marks_length a.found
+    whole a.s a.t.xs.now a.t.ys.now a.t.times.now a.t.marks.now a.t.ys_length a.t.times_length a.t.marks_length a.found
     some_fix (length a.work.now / 4) a.work.now a.events.now some_room fits c.close-last.new.work
     c.close-last.new.events c.close-last.result refl
     (omega (arith, c.close-last.auto.work, c.loop-i.auto.work, c.insert_both.auto.work))
-    (omega (arith, c.close-last.auto.events, p.events_length)) (last_state a.s a.xs.now a.ys.now a.times.now a.marks.now p.ys_length p.times_length p.marks_length a.found
-    some_fix (length a.work.now / 4) a.work.now a.events.now some_room fits c.all_marked-timed.result
+    (omega (arith, c.close-last.auto.events, p.events_length)) (last_state a.s a.t.xs.now a.t.ys.now a.t.times.now a.t.marks.now a.t.ys_length a.t.times_length a.t.marks_length a.found
+    some_fix (length a.work.now / 4) a.work.now a.events.now some_room fits (all_marked a.t.marks.now)
     c.insert_both.new.work l.work _ l.events _ l.o c.close-last.result l.i
-    c.all_marked-timed.ensures c.insert_both.ensures c.loop-i-test.false (omega arith) l.invariant.0
-    c.close-last.ensures)
+    refl c.insert_both.ensures c.loop-i-test.false (omega arith) l.invariant.0
+    (c.close-last.ensures ∙ closed_seen a.t.times c.all_marked.ensures c.then_some.ensures a.s _ _))

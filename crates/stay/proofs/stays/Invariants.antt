@@ -2,7 +2,8 @@
 use mathlib.Core.Path.{◌≡◌}
 use Prim.Native.Nat.{◌-◌}
 use Rattle.distance.specs.Distance.{euclidean}
-use Rattle.trace.specs.Trace.{fixes}
+use Rattle.trace.specs.Given.{fixes_of}
+use Rattle.trace.specs.Steps.{all_marked}
 use Rattle.stay.specs.Steps.{state_of}
 use Rattle.stay.proofs.Run.{run}
 use Rattle.stay.proofs.Whole.{Sound}
@@ -10,6 +11,6 @@ use Rattle.stay.proofs.stays.Given as goal
 
 abbrev pub invariant-loop-i : goal.invariant-loop-i
 invariant-loop-i l =
-    (run euclidean l.s l.timed l.times (fixes l.xs l.ys l.times l.marks) l.i (l.n - l.i) (state_of l.q l.i l.work l.events l.o) ≡ run euclidean l.s l.timed l.times
-    (fixes l.xs l.ys l.times l.marks) 1 (l.n - 1) (state_of l.q 1 l.initial.work l.initial.events l.initial.o))
+    (run euclidean l.s (all_marked l.t.marks.now) l.t.times.now (fixes_of l.t) l.i (l.n - l.i) (state_of l.q l.i l.work l.events l.o) ≡ run euclidean l.s (all_marked l.t.marks.now) l.t.times.now
+    (fixes_of l.t) 1 (l.n - 1) (state_of l.q 1 l.initial.work l.initial.events l.initial.o))
     × Sound l.found l.i (state_of l.q l.i l.work l.events l.o)

@@ -10,19 +10,19 @@ use Rattle.infostop.proofs.steps.from_tracks.Goals as goal
 pub slice_bounds-all_stays-end : goal.slice_bounds-all_stays-end
 slice_bounds-all_stays-end c =
     let a = c.args in
-    floats_room a.xs.now a.ys.now a.times.now a.marks.now a.lens.now a.floats.now a.words.now a.labels.now
+    floats_room a.t.xs.now a.t.ys.now a.t.times.now a.t.marks.now a.t.lens.now a.floats.now a.words.now a.labels.now
     a.places c.requires
 
 pub slice_bounds-all_stays-end-2 : goal.slice_bounds-all_stays-end-2
 slice_bounds-all_stays-end-2 c =
     let a = c.args in
-    words_room a.xs.now a.ys.now a.times.now a.marks.now a.lens.now a.floats.now a.words.now a.labels.now
+    words_room a.t.xs.now a.t.ys.now a.t.times.now a.t.marks.now a.t.lens.now a.floats.now a.words.now a.labels.now
     a.places c.requires
 
 pub all_stays-k-requires : goal.all_stays-k-requires
 all_stays-k-requires c =
     let a = c.args in
-    all_lengths a.xs.now a.ys.now a.times.now a.marks.now a.lens.now a.floats.now a.words.now a.labels.now
+    all_lengths a.t.xs.now a.t.ys.now a.t.times.now a.t.marks.now a.t.lens.now a.floats.now a.words.now a.labels.now
     a.places c.requires
 
 pub returns-then-k-eq0 : goal.returns-then-k-eq0
@@ -35,9 +35,9 @@ returns-then-k-eq0 c =
 pub from_medians-requires : goal.from_medians-requires
 from_medians-requires c =
     let a = c.args in (
-      few_places a.xs.now a.ys.now a.times.now a.marks.now a.lens.now a.floats.now a.words.now a.labels.now
+      few_places a.t.xs.now a.t.ys.now a.t.times.now a.t.marks.now a.t.lens.now a.floats.now a.words.now a.labels.now
           a.places c.requires,
-      space a.xs.now a.ys.now a.times.now a.marks.now a.lens.now a.floats.now a.words.now a.labels.now a.places
+      space a.t.xs.now a.t.ys.now a.t.times.now a.t.marks.now a.t.lens.now a.floats.now a.words.now a.labels.now a.places
           c.requires _ _ c.all_stays-k.new.work c.all_stays-k.new.events _
           c.all_stays-k.auto.work c.all_stays-k.auto.events
           c.all_stays-k.ensures,
@@ -52,7 +52,7 @@ returns c =
     c.from_medians.new.labels)
     (some_stay a.model.now.config a.places _ _ _ _ _ f c.if-k-eq0.false)
     (c.from_medians.ensures _
-    (found_there a.xs.now a.ys.now a.times.now a.marks.now a.lens.now a.floats.now a.words.now a.labels.now
+    (found_there a.t.xs.now a.t.ys.now a.t.times.now a.t.marks.now a.t.lens.now a.floats.now a.words.now a.labels.now
     a.places c.requires _ _ c.all_stays-k.new.work
     c.all_stays-k.new.events _ c.all_stays-k.auto.work
     c.all_stays-k.auto.events c.all_stays-k.ensures))

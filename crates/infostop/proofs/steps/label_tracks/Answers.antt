@@ -1,20 +1,17 @@
 -- `infostop::steps::label_tracks` meets its contract.
-use Prim.Native.Nat.{◌+◌, ◌*◌}
+use mathlib.Core.Path.{sym, ◌∙◌}
 use native.Mathlib.Omega.{arith}
-use lib.ListN.{length}
-use Rattle.infostop.proofs.Grouping.{table_there, grouped}
+use Rattle.infostop.proofs.Grouping.{grouped_none, grouped_later}
 use Rattle.infostop.proofs.steps.label_tracks.Goals as goal
 
-pub cluster-kept-requires : goal.cluster-kept-requires
-cluster-kept-requires c =
-    let p = c.requires in
-    (table_there _ _ _ _ _ _ _ _ p.0 p.1, p.0.labels_length)
+pub returns-then-none_labelled : goal.returns-then-none_labelled
+returns-then-none_labelled c =
+    let k = c.cluster-kept in
+    grouped_none _ _ _ _ _ _ _ k.result k.ensures (sym c.none_labelled.ensures ∙ c.if-none_labelled.true)
 
 pub returns : goal.returns
 returns c =
-    let a = c.args in
-    let p = c.requires in
+    let s = c.requires.1 in
     let k = c.cluster-kept in
-    grouped _ _ _ _ _ _ _ _ _ k.result k.ensures _ c.none_labelled-none.ensures _ c.answer_of.ensures
-    (4 * length a.labels.now + length a.px.now * length a.px.now) k.new.table _ p.1.few_stays
-    (omega (arith, p.1.floats_length)) (c.label_fixes.ensures a.counts.now p.0.counts)
+    grouped_later _ _ _ _ _ _ _ k.result k.ensures (sym c.none_labelled.ensures ∙ c.if-none_labelled.false) _ k.new.table _ _ s.few_stays (omega (arith, s.floats_length))
+    c.medians.ensures.0 c.label_fixes.ensures

@@ -5,7 +5,7 @@ use native.Mathlib.Omega.{arith}
 use lib.ListN.{length, take}
 use lib.Seq.{length-take-le}
 use Rattle.map_state.specs.Network.{Network, row}
-use Rattle.map_state.proofs.Rows.{row_inside, row_length}
+use Rattle.map_state.proofs.Rows.{row_within, row_length}
 use Rattle.map_state.proofs.Network.row.Goals as goal
 
 pub returns : goal.returns
@@ -15,5 +15,5 @@ returns c =
     let e : length (take i.n i.strength) ≡ i.n = length-take-le i.n i.strength (omega arith) in
     let n : length c.args.self.now.strength ≡ i.n = sym (ap (λ (x : Network). length x.strength) c.self.view_is) ∙ e in (
       rw (add-sub_cancel_left, ← c.self.view_is, e),
-      row_length i.table.now _ i.n (row_inside _ _ _ c.args.u c.self.invariant (omega arith)) ∙ sym n,
+      row_length i.table.now _ i.n (row_within _ _ _ c.args.u c.self.invariant (omega arith)) ∙ sym n,
     )

@@ -6,4 +6,4 @@ use Rattle.neighbors.specs.StepsTables.{Weighted}
 use Rattle.neighbors.proofs.weights.fill_row.Given as goal
 
 abbrev pub invariant-loop-j : goal.invariant-loop-j
-invariant-loop-j l = Weighted euclidean l.r2 l.xs l.ys l.counts l.table (l.i * length l.xs + l.j)
+invariant-loop-j l = Weighted euclidean l.r2 l.places l.table (l.i * length l.places + l.j)

@@ -6,4 +6,4 @@ use Rattle.neighbors.specs.StepsTables.{Weighted}
 use Rattle.neighbors.proofs.weights.fill_table.Given as goal
 
 abbrev pub invariant-loop-i : goal.invariant-loop-i
-invariant-loop-i l = Weighted euclidean l.r2 l.xs l.ys l.counts l.table (l.i * length l.xs)
+invariant-loop-i l = Weighted euclidean l.r2 l.places l.table (l.i * length l.places)

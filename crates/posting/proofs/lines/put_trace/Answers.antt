@@ -11,8 +11,8 @@ use Rattle.posting.proofs.LinesFrom.{trace_on, trace_end}
 use Rattle.posting.proofs.Within.{label_at}
 use Rattle.posting.proofs.lines.put_trace.Goals as goal
 
-pub put_fix-k-requires : goal.put_fix-k-requires
-put_fix-k-requires c =
+pub put_fix-requires : goal.put_fix-requires
+put_fix-requires c =
     let fits : SFits w32 (get_or c.args.labels.now c.loop-f.f (pos 0)) = search rules in
     let labels = c.args.labels.now in
     let f = c.loop-f.f in
@@ -25,12 +25,15 @@ put_fix-k-requires c =
 
 pub loop-f-preserved : goal.loop-f-preserved
 loop-f-preserved c =
-    let fits : SFits w32 (get_or c.args.labels.now c.loop-f.f (pos 0)) = search rules in (
-      trace_on _ _ _ _ _ _ c.loop-f-test.true
-          (rw (to_z-of_z {w = w32} fits) at c.put_fix-k.ensures)
-          c.loop-f.invariant.0,
-      c.put_fix-k.auto.out ∙ c.loop-f.invariant.1,
-    )
+    let fits : SFits w32 (get_or c.args.labels.now c.loop-f.f (pos 0)) = search rules in
+    let fix = rw (to_z-of_z {w = w32} fits) at c.put_fix.ensures in
+    record {
+      same = fix.same ∙ c.loop-f.invariant.same;
+      left = trace_on _ _ _ _ _ _ c.loop-f-test.true fix.written c.loop-f.invariant.left;
+    }
 
 pub returns : goal.returns
-returns c = trace_end _ _ _ _ _ c.loop-f-test.false c.loop-f.invariant.0
+returns c = record {
+  same = c.loop-f.invariant.same;
+  written = trace_end _ _ _ _ _ c.loop-f-test.false c.loop-f.invariant.left;
+}

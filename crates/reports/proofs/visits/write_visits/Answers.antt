@@ -2,12 +2,22 @@
 use mathlib.Core.Path.{refl, ap₂, ◌∙◌}
 use mathlib.Core.List.{List, map}
 use Prim.Native.Nat.{ℕ}
+use native.Mathlib.Omega.{arith}
 use lib.IntN.{ℤ}
 use borrow.Author.Rules.{rules}
 use Rattle.lists.specs.Lists.{upto, overlay}
 use Rattle.reports.specs.Visits.{visits_to, trace_visits}
 use Rattle.reports.proofs.OneTraces.{one_trace, places_agree, visited_read}
 use Rattle.reports.proofs.visits.write_visits.Goals as goal
+
+pub offset_bounds-tracks-trace : goal.offset_bounds-tracks-trace
+offset_bounds-tracks-trace c = omega (arith, c.requires.there, c.requires.few_traces)
+
+pub overflow_add-one : goal.overflow_add-one
+overflow_add-one c = omega (arith, c.requires.there, c.requires.few_traces)
+
+pub offset_bounds-tracks-trace-2 : goal.offset_bounds-tracks-trace-2
+offset_bounds-tracks-trace-2 c = omega (arith, c.requires.there, c.requires.few_traces)
 
 pub label_stays-k-requires : goal.label_stays-k-requires
 label_stays-k-requires c =

@@ -10,9 +10,9 @@ returns-in_err-check_config c =
     let a = c.args in
     let q = err_from_is_err_and c.from_residual.result c.from_residual.ensures.1 in
     rw (q.1, q.2)
-    (promised_refused a.self.now a.xs.now a.ys.now a.times.now a.marks.now a.lens.now a.labels.now a.places
+    (promised_refused a.self.now a.tracks.xs.now a.tracks.ys.now a.tracks.times.now a.tracks.marks.now a.tracks.lens.now a.labels.now a.places
     a.floats.now a.words.now _
-    (config_refused a.self.now.config a.xs.now a.ys.now a.times.now a.marks.now a.lens.now (length a.labels.now)
+    (config_refused a.self.now.config a.tracks.xs.now a.tracks.ys.now a.tracks.times.now a.tracks.marks.now a.tracks.lens.now (length a.labels.now)
     a.places (length a.floats.now) (length a.words.now) _ (sym c.check_config.ensures ∙ c.in_err-check_config.was)))
 
 pub returns-in_err-check_tracks : goal.returns-in_err-check_tracks
@@ -20,9 +20,9 @@ returns-in_err-check_tracks c =
     let a = c.args in
     let q = err_from_is_err_and c.from_residual-in_err-check_tracks.result c.from_residual-in_err-check_tracks.ensures.1 in
     rw (q.1, q.2)
-    (promised_refused a.self.now a.xs.now a.ys.now a.times.now a.marks.now a.lens.now a.labels.now a.places
+    (promised_refused a.self.now a.tracks.xs.now a.tracks.ys.now a.tracks.times.now a.tracks.marks.now a.tracks.lens.now a.labels.now a.places
     a.floats.now a.words.now _
-    (tracks_refused a.self.now.config a.xs.now a.ys.now a.times.now a.marks.now a.lens.now (length a.labels.now)
+    (tracks_refused a.self.now.config a.tracks.xs.now a.tracks.ys.now a.tracks.times.now a.tracks.marks.now a.tracks.lens.now (length a.labels.now)
     a.places (length a.floats.now) (length a.words.now) _
     (sym c.check_config.ensures ∙ c.in_ok-check_config.was)
     (sym c.check_tracks.ensures ∙ c.in_err-check_tracks.was)))
@@ -34,6 +34,6 @@ from_tracks-requires c =
 pub returns : goal.returns
 returns c =
     let a = c.args in
-    promised_fit a.self.now a.xs.now a.ys.now a.times.now a.marks.now a.lens.now a.labels.now a.places a.floats.now
+    promised_fit a.self.now a.tracks.xs.now a.tracks.ys.now a.tracks.times.now a.tracks.marks.now a.tracks.lens.now a.labels.now a.places a.floats.now
     a.words.now _ _ _ _ (sym c.check_config.ensures ∙ c.in_ok-check_config.was)
     (sym c.check_tracks.ensures ∙ c.in_ok-check_tracks.was) c.from_tracks.ensures

@@ -1,0 +1,6 @@
+-- `float::Scaled::normalize` meets its contract.
+use Rattle.float.proofs.Unpacking.{normalized}
+use Rattle.float.proofs.Scaled.normalize.Goals as goal
+
+pub returns : goal.returns
+returns c = normalized c.args.self.m c.args.self.e c.requires.m_nonzero c.requires.m_bound c.requires.e_bound

@@ -1,5 +1,0 @@
--- The digits still to be written fall.
-use Rattle.print.proofs.bytes.+put_digits.Given as goal
-
-abbrev pub decreases-put_digits : goal.decreases-put_digits
-decreases-put_digits l = l.f
