@@ -9,6 +9,9 @@ ghost use Rattle.map_state.specs.Steps.{net_of, Rows, EachRow, Firsts, Summed, R
 
 use std::marker::Model;
 
+mod state;
+mod table;
+
 // The weights from a node into its own group, into another, and elsewhere.
 #[derive(Clone, Copy, Debug, PartialEq)]
 pub struct Links {
@@ -317,66 +320,10 @@ impl<'a> Model for Network<'a> {
     ghost invariant = { λ a. EachRow a.table.now a.stride a.n };
 }
 
-impl<'a> Network<'a> {
-    // The network of n nodes whose weights stand in the table.
-    pub fn new(table: &'a [f64], stride: usize, n: usize) -> Self
-        requires { Rows table.now stride n }
-        ensures { result ≡ network table.now stride n }
-    {
-        let mut strength = [0.0; 512];
-        sum_strengths(table, stride, &mut strength[..n]);
-        let d = 2.0 * total_weight(table, stride, n);
-        Network {
-            table,
-            stride,
-            n,
-            strength,
-            d,
-        }
-    }
-
-    // The network of these strengths and this D, whatever they are.
-    pub fn from_parts(table: &'a [f64], stride: usize, strength: &[f64], d: f64) -> Self
-        requires { EachRow table.now stride (length strength.now) }
-        ensures { result ≡ net_of table.now stride strength.now d }
-    {
-        let n = strength.len();
-        let mut kept = [0.0; 512];
-        kept[..n].copy_from_slice(strength);
-        Network {
-            table,
-            stride,
-            n,
-            strength: kept,
-            d,
-        }
-    }
-
-    pub fn d(&self) -> f64
-        ensures { result ≡ self.now.d }
-    {
-        self.d
-    }
-
-    pub fn strength(&self) -> &[f64]
-        ensures { (result.now ≡ self.now.strength) × (length result.now ≤ 512) }
-    {
-        &self.strength[..self.n]
-    }
-
-    // The weights between node u and each node.
-    pub fn row(&self, u: usize) -> &[f64]
-        requires { u < length self.now.strength }
-        ensures { (result.now ≡ row self.now u) × (length result.now ≡ length self.now.strength) }
-    {
-        let a = u * self.stride;
-        &self.table[a..a + self.n]
-    }
-}
-
 // What the run carries, one element a node: `partition`, the internal number of the node's group; `first`, the lowest member of that
 // group; `exits` and `strengths`, a group's sums, at its lowest member. `q` is Q.
-// Kept as it is: arrays side by side. One array of a struct a node would be no plainer: eleven functions and a copy take the partition alone
+// Kept as it is: no equality is derived of it, nor of `Network`, since a model that does not give the fields back has none; and it has arrays
+// side by side. One array of a struct a node would be no plainer: eleven functions and a copy take the partition alone
 // as a slice of numbers (`lowest`, `members`, `link_weights`, `highest` of scan, the grouping that infomap keeps), and each would need a
 // loop that takes the groups out first; `fill` clears the sums alone. The arrays are of fixed size since the project takes no heap.
 #[derive(Drop)]
@@ -400,128 +347,4 @@ impl Model for MapState {
     ghost view = { λ a. record { partition = take a.n a.partition; exits = take a.n a.exits; strengths = take a.n a.strengths; q_sum = a.q } };
 
     ghost invariant = { λ a. (a.n ≤ 512) × Firsts (take a.n a.partition) a.first };
-}
-
-impl MapState {
-    // Each node's group.
-    pub fn partition(&self) -> &[u32]
-        ensures { (result.now ≡ self.now.partition) × Even self.now }
-    {
-        &self.partition[..self.n]
-    }
-
-    // The lowest member of each node's group.
-    pub fn first(&self) -> &[u32]
-        ensures { (length result.now ≡ length self.now.partition) × Firsts self.now.partition result.now }
-    {
-        &self.first[..self.n]
-    }
-
-    // The exit weights of the groups, each at the group's lowest member.
-    pub fn exits(&self) -> &[f64]
-        ensures { (result.now ≡ self.now.exits) × (length result.now ≡ length self.now.partition) }
-    {
-        &self.exits[..self.n]
-    }
-
-    // The strengths of the groups, likewise.
-    pub fn strengths(&self) -> &[f64]
-        ensures { (result.now ≡ self.now.strengths) × (length result.now ≡ length self.now.partition) }
-    {
-        &self.strengths[..self.n]
-    }
-
-    // The sums of a node's own group.
-    pub fn own_stats(&self, v: usize) -> ModuleStats
-        requires { v < length self.now.partition }
-        ensures { result ≡ stats_of self.now (get_or self.now.partition v 0) }
-    {
-        let partition = self.partition();
-        let slot = self.first()[v] as usize;
-        stats_at(
-            partition,
-            self.exits(),
-            self.strengths(),
-            slot,
-            partition[v],
-        )
-    }
-
-    // A group's sums, wherever they stand; an empty group's are 0.
-    pub fn find_stats(&self, g: u32) -> ModuleStats
-        ensures { result ≡ stats_of self.now g }
-    {
-        find_stats(self.partition(), self.exits(), self.strengths(), g)
-    }
-
-    // Q, by lowest member.
-    pub fn sum_q(&self, d: f64) -> f64
-        ensures { result ≡ sum_q d self.now.partition self.now.exits }
-    {
-        sum_q(self.partition(), self.first(), self.exits(), d)
-    }
-
-    // The change of codelength if u moves to h; its group is `src` and h is `dest` before it.
-    pub fn delta_move(
-        &self,
-        net: &Network,
-        u: usize,
-        h: u32,
-        src: ModuleStats,
-        dest: ModuleStats,
-    ) -> f64
-        requires { (AtNode net.now self.now u) × (MoveSums self.now u h src dest) }
-        ensures { result ≡ delta_move net.now self.now u h }
-    {
-        let partition = self.partition();
-        delta_move(
-            net.row(u),
-            net.strength()[u],
-            net.d(),
-            partition,
-            self.q,
-            partition[u],
-            h,
-            src,
-            dest,
-        )
-    }
-
-    // Moves u to h, another group, and makes Q anew.
-    pub fn apply_move(&mut self, net: &Network, u: usize, h: u32)
-        requires { AtNode net.now self.old u }
-        ensures { self.new ≡ apply_move net.now self.old u h }
-    {
-        let g = self.partition()[u];
-        let src = self.own_stats(u);
-        let dest = self.find_stats(h);
-        let mv = move_of(
-            net.row(u),
-            net.strength()[u],
-            self.partition(),
-            g,
-            h,
-            src,
-            dest,
-        );
-        self.partition[u] = h;
-        let partition = &self.partition[..self.n];
-        store_group(
-            partition,
-            &mut self.first,
-            &mut self.exits,
-            &mut self.strengths,
-            g,
-            mv.src,
-        );
-        store_group(
-            partition,
-            &mut self.first,
-            &mut self.exits,
-            &mut self.strengths,
-            h,
-            mv.dest,
-        );
-        self.q = self.sum_q(net.d());
-    }
 }

@@ -15,6 +15,7 @@ use map_state::{MapState, Network};
 use scan::Scan;
 
 // A trial: its state, the generator's state, the rounds so far, and whether the last one moved something.
+// Kept as it is: no equality is derived of it, since it holds a `MapState`, which has none.
 #[derive(Drop)]
 pub struct RunState {
     pub state: MapState,

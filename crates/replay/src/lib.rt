@@ -24,6 +24,7 @@ pub fn room() -> [u8; 1000000]
 }
 
 // Reads a list of unsigned decimal numbers, and texts between them: the list, and the place from which on it is read.
+// Kept as it is: no equality and no copy is derived of it, since a reader is moved along its list, and two of one list would be a mistake.
 #[derive(Debug, Drop)]
 pub struct Numbers<'a> {
     pub text: &'a [u8],

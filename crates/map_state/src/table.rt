@@ -1,0 +1,63 @@
+// The network: made from a table or from its parts, and read.
+ghost use Rattle.std.specs.Prelude.{◌≡◌, ◌<◌, ◌≤◌, length};
+ghost use Rattle.map_state.specs.Network.{row, network};
+ghost use Rattle.map_state.specs.Steps.{net_of, Rows, EachRow};
+
+use crate::{Network, sum_strengths, total_weight};
+
+impl<'a> Network<'a> {
+    // The network of n nodes whose weights stand in the table.
+    pub fn new(table: &'a [f64], stride: usize, n: usize) -> Self
+        requires { Rows table.now stride n }
+        ensures { result ≡ network table.now stride n }
+    {
+        let mut strength = [0.0; 512];
+        sum_strengths(table, stride, &mut strength[..n]);
+        let d = 2.0 * total_weight(table, stride, n);
+        Network {
+            table,
+            stride,
+            n,
+            strength,
+            d,
+        }
+    }
+
+    // The network of these strengths and this D, whatever they are.
+    pub fn from_parts(table: &'a [f64], stride: usize, strength: &[f64], d: f64) -> Self
+        requires { EachRow table.now stride (length strength.now) }
+        ensures { result ≡ net_of table.now stride strength.now d }
+    {
+        let n = strength.len();
+        let mut kept = [0.0; 512];
+        kept[..n].copy_from_slice(strength);
+        Network {
+            table,
+            stride,
+            n,
+            strength: kept,
+            d,
+        }
+    }
+
+    pub fn d(&self) -> f64
+        ensures { result ≡ self.now.d }
+    {
+        self.d
+    }
+
+    pub fn strength(&self) -> &[f64]
+        ensures { (result.now ≡ self.now.strength) × (length result.now ≤ 512) }
+    {
+        &self.strength[..self.n]
+    }
+
+    // The weights between node u and each node.
+    pub fn row(&self, u: usize) -> &[f64]
+        requires { u < length self.now.strength }
+        ensures { (result.now ≡ row self.now u) × (length result.now ≡ length self.now.strength) }
+    {
+        let a = u * self.stride;
+        &self.table[a..a + self.n]
+    }
+}
