@@ -1,5 +1,5 @@
 -- The columns of one trace: the loops over them, and the fixes that they stand for.
-use mathlib.Core.Path.{◌≡◌, refl, sym, ap, ap₂, ◌∙◌, subst}
+use mathlib.Core.Path.{◌≡◌, sym, refl, ap, ap₂, ◌∙◌, subst}
 use mathlib.Core.Bool.{Bool, true, false, not, ◌&&◌, ◌||◌}
 use mathlib.Core.List.{List, [], ◌∷◌}
 use mathlib.Core.Option.{Option}
@@ -9,14 +9,21 @@ use lib.Dec.{eqb}
 use lib.ListN.{length, drop, get_or, length-drop, drop_of_length-le}
 use lib.Seq.{drop-cons}
 use lib.Ieee.{Float, nan}
-use Rattle.std.specs.Prelude.{Ok}
+use Rattle.std.specs.Prelude.{Ok, Err}
 use Rattle.std.specs.List.{list_any}
+use Rattle.distance.specs.declared.Point.{Point}
+use Rattle.distance.specs.Distance.{points}
+use Rattle.distance.specs.Steps.{point_at as read_at}
+use Rattle.distance.proofs.Columns.{length_points, point_read}
+use Rattle.trace.specs.declared.Trace.{Trace}
+use Rattle.trace.specs.Given.{fixes_of}
 use Rattle.trace.specs.Trace.{Fix, time_of, fixes}
 use Rattle.trace.specs.Steps.{all_marked}
 use Rattle.trace.proofs.Fixes.{has_time_lem, no_fix, fixes_length, fixes_at, timed_marked}
+use Rattle.settings.specs.declared.refusal.Refusal.{Refusal}
 use Rattle.settings.specs.Checks.{Checked, first_of, each_of}
 use Rattle.checks.specs.Traces.{untimed, partly_timed, above, above_first, in_time_order}
-use Rattle.checks.specs.Steps.{none_marked, column_above, columns_in_order}
+use Rattle.checks.specs.Steps.{column_above, columns_in_order}
 use Rattle.settings.proofs.Turns.{each_step}
 
 -- ---- a check at each fix, in a loop over the columns
@@ -37,25 +44,44 @@ fix_end f xs ys ts ms i a b c h =
     let n : length (fixes xs ys ts ms) ≤ i = rw (fixes_length xs ys ts ms a b c) h in
     rw (drop_of_length-le (fixes xs ys ts ms) {i = i} n)
 
--- ---- no mark is 1
+-- Fix i, which the code reads as the point p and the time m, with r for what the check says: where it is accepted those behind it decide, and where it is
+-- refused that is the answer.
+module _
+    (f : Fix → Checked) (t : Trace) (i : ℕ) (h : i < length t.xs.now) (ps : List Point) (lent : ps ≡ points t.xs.now t.ys.now) (p : Point) (read : p ≡ read_at ps i)
+    (m : Option Float) (timed : m ≡ time_of (get_or t.marks.now i 0) (get_or t.times.now i nan)) (r : Checked) (said : r ≡ f (record { at = p; time = m })) where
+  is_fix : ◌≡◌ {A = Fix} (record { at = p; time = m }) (fix_at t.xs.now t.ys.now t.times.now t.marks.now i)
+  is_fix =
+      let there : i < length (points t.xs.now t.ys.now) = omega (arith, length_points t.xs.now t.ys.now t.ys_length) in
+      ap₂ {C = Fix} (λ (q : Point) (n : Option Float). record { at = q; time = n }) (read ∙ ap (λ (qs : List Point). read_at qs i) lent ∙ sym (point_read t.xs.now t.ys.now i t.ys_length there)) timed
 
-pub none_any : (ms : List ℕ) → list_any (λ (m : ℕ). eqb m 1) ms ≡ not (none_marked ms)
-unfolding none_marked
-none_any [] = refl
-none_any (m ∷ ms) = ap (λ (b : Bool). eqb m 1 || b) (none_any ms) ∙ one_of (eqb m 1) (none_marked ms)
+  next_fix : each_of f (drop i (fixes_of t)) ≡ first_of r (each_of f (drop (i + 1) (fixes_of t)))
+  next_fix =
+      fix_next f t.xs.now t.ys.now t.times.now t.marks.now i t.ys_length t.times_length t.marks_length h
+      ∙ ap (λ (k : Checked). first_of k (each_of f (drop (i + 1) (fixes_of t)))) (ap f (sym is_fix) ∙ sym said)
+
+  pub fix_accepted : r ≡ Ok tt → each_of f (drop (i + 1) (fixes_of t)) ≡ each_of f (drop i (fixes_of t))
+  unfolding first_of
+  fix_accepted e = sym (rw e at next_fix)
+
+  pub fix_refused : (x : Refusal) → r ≡ Err x → Err x ≡ each_of f (drop i (fixes_of t))
+  unfolding first_of
+  fix_refused x e = sym (rw e at next_fix)
+
+-- ---- some mark is 1
+
+pub some_timed : (xs ys ts : List Float) (ms : List ℕ) → length ys ≡ length xs → length ts ≡ length xs → length ms ≡ length xs → list_any (λ (m : ℕ). eqb m 1) ms ≡ not (untimed (fixes xs ys ts ms))
+unfolding fixes untimed
+some_timed [] ys ts [] a b c = refl
+some_timed [] ys ts (m ∷ ms) a b c = absurd (omega arith)
+some_timed (x ∷ xs) [] ts ms a b c = absurd (omega arith)
+some_timed (x ∷ xs) (y ∷ ys) [] ms a b c = absurd (omega arith)
+some_timed (x ∷ xs) (y ∷ ys) (t ∷ ts) [] a b c = absurd (omega arith)
+some_timed (x ∷ xs) (y ∷ ys) (t ∷ ts) (m ∷ ms) a b c =
+    rw (has_time_lem m t) (ap (λ (b : Bool). eqb m 1 || b) (some_timed xs ys ts ms (omega arith) (omega arith) (omega arith)) ∙ one_of (eqb m 1) (untimed (fixes xs ys ts ms)))
   where
     one_of : (a b : Bool) → (a || not b) ≡ not (not a && b)
     one_of true b = refl
     one_of false b = refl
-
-pub untimed_marked : (xs ys ts : List Float) (ms : List ℕ) → length ys ≡ length xs → length ts ≡ length xs → length ms ≡ length xs → none_marked ms ≡ untimed (fixes xs ys ts ms)
-unfolding fixes untimed none_marked
-untimed_marked [] ys ts [] a b c = refl
-untimed_marked [] ys ts (m ∷ ms) a b c = absurd (omega arith)
-untimed_marked (x ∷ xs) [] ts ms a b c = absurd (omega arith)
-untimed_marked (x ∷ xs) (y ∷ ys) [] ms a b c = absurd (omega arith)
-untimed_marked (x ∷ xs) (y ∷ ys) (t ∷ ts) [] a b c = absurd (omega arith)
-untimed_marked (x ∷ xs) (y ∷ ys) (t ∷ ts) (m ∷ ms) a b c = ap₂ (λ (p q : Bool). not p && q) (sym (has_time_lem m t)) (untimed_marked xs ys ts ms (omega arith) (omega arith) (omega arith))
 
 -- ---- times in order
 
@@ -111,6 +137,6 @@ order_columns (x ∷ xs) (y ∷ ys) (t ∷ ts) (m ∷ ms) a b c =
 -- Some marks are 1 and some not where some fixes are timed and some not.
 pub partly_columns :
     (xs ys ts : List Float) (ms : List ℕ) → length ys ≡ length xs → length ts ≡ length xs → length ms ≡ length xs →
-    (not (all_marked ms) && not (none_marked ms)) ≡ partly_timed (fixes xs ys ts ms)
+    (not (all_marked ms) && list_any (λ (m : ℕ). eqb m 1) ms) ≡ partly_timed (fixes xs ys ts ms)
 unfolding partly_timed
-partly_columns xs ys ts ms a b c = ap₂ (λ (p q : Bool). not p && not q) (timed_marked xs ys ts ms a b c) (untimed_marked xs ys ts ms a b c)
+partly_columns xs ys ts ms a b c = ap₂ (λ (p q : Bool). not p && q) (timed_marked xs ys ts ms a b c) (some_timed xs ys ts ms a b c)

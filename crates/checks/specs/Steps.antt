@@ -1,16 +1,17 @@
 -- Serves the contracts of this crate's own functions; no public contract reaches it.
 -- What functions compute from the columns of times and marks of one trace. Lemmas join it to the trace's fixes.
-use Rattle.std.specs.Prelude.{ℕ, Bool, true, false, not, ◌&&◌, List, [], ◌∷◌, eqb, length, Float}
-use Rattle.std.proofs.Math.Option.{Option}
+use Rattle.std.specs.Prelude.{ℕ, Bool, true, false, not, ◌&&◌, List, [], ◌∷◌, length, Float}
+use Rattle.std.specs.Prelude.{Option as Given, None, Some}
+use Rattle.std.proofs.Math.Option.{Option, none, some}
 use Rattle.trace.specs.Trace.{time_of}
 use Rattle.settings.specs.Checks.{Checked, in_turn}
 use Rattle.checks.specs.Traces.{above}
 use Rattle.checks.specs.Tracks.{check_lengths, check_counts, check_work, check_contents}
 
--- No mark is 1.
-unfoldable pub none_marked : List ℕ → Bool
-none_marked [] = true
-none_marked (m ∷ ms) = not (eqb m 1) && none_marked ms
+-- A time that the code hands over, as the definitions write one.
+unfoldable pub given : Given Float → Option Float
+given None = none
+given (Some t) = some t
 
 unfoldable pub column_above : Option Float → List Float → List ℕ → Bool
 column_above t [] ms = false

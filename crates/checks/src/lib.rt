@@ -2,7 +2,7 @@
 // 11 to 15; after all traces 16.
 #![tactic(auto)]
 
-mod agreed;
+mod contents;
 pub mod fix;
 mod one_trace;
 pub mod slices;
@@ -11,11 +11,12 @@ ghost use Rattle.std.specs.Prelude.{◌≡◌, ◌≤◌};
 ghost use Rattle.checks.specs.Steps.{check_columns};
 ghost use Rattle.checks.specs.Tracks.{check_label_lengths, check_tracks, check_report_tracks};
 
-use crate::agreed::Agreed;
 use settings::refusal::Refusal;
 use trace::Tracks;
+use trace::agreed::Agreed;
 
 // The room that a call is lent: the length of the label slice, the number of places, and the lengths of the work slices.
+// Kept as it is: its two callers, the fit and the fit of records, write out which slice is which; a function of the slices would be told the same by place.
 #[derive(Clone, Copy, Debug, PartialEq, Eq)]
 pub struct Room {
     pub labels: usize,
@@ -41,7 +42,7 @@ fn check_columns(t: Tracks, room: Room, counted: usize) -> Result<(), Refusal>
     )?;
     crate::slices::check_counts(t.lens.len(), n, counted)?;
     crate::slices::check_work(n, room)?;
-    Agreed { t }.check_contents()
+    crate::contents::check_contents(Agreed { tracks: t })
 }
 
 // All checks of tracks for a fit.

@@ -24,6 +24,8 @@ fn sums_to(lens: &[u32], n: usize) -> bool
 }
 
 // Whether the other slices have n elements too.
+// Kept as it is: five lengths, here and in `check_lengths`: the records have no columns yet, and hand over n four times. A struct of the five would be made at
+// each of the two calls, and taken apart here.
 #[tactic(auto, unfolding(crate::specs::Tracks::same_lengths))]
 fn same_lengths(n: usize, ys: usize, times: usize, marks: usize, labels: usize) -> bool
     ensures { result ≡ same_lengths n ys times marks labels }

@@ -1,5 +1,5 @@
 -- The nodes' table as the grouping asks for it, and the labels of places from the grouping.
-use mathlib.Core.Path.{◌≡◌, sym, ap, ap₂, ◌∙◌, subst}
+use mathlib.Core.Path.{◌≡◌, sym, ap, ◌∙◌, subst}
 use mathlib.Core.Bool.{Bool}
 use mathlib.Core.List.{List, map}
 use Prim.Native.Nat.{ℕ, ◌*◌, ◌<◌, ◌≤◌}
@@ -63,13 +63,13 @@ labels_few r net seed e = subst (λ (l : List ℕ). label_count l ≤ length l) 
 
 module _ (dist : Metric) (r2 : Float) (ps : List Place) where
   -- The compacted table is that of the nodes' network.
-  pub network_front : (n : ℕ) (ns : List ℕ) (t s : List Float) {m : ℕ} → ns ≡ nodes dist r2 ps → RowNumbers n ns → Tabled (weight dist r2 ps) n t (n * n) → Compacted n ns t s (length ns * length ns)
-      → length s ≡ n * n → m ≡ length ns → network (take (length ns * length ns) s) (length ns) m ≡ node_network dist r2 ps
+  pub network_front : (n : ℕ) (ns : List ℕ) (t s : List Float) → ns ≡ nodes dist r2 ps → RowNumbers n ns → Tabled (weight dist r2 ps) n t (n * n) → Compacted n ns t s (length ns * length ns)
+      → length s ≡ n * n → network (take (length ns * length ns) s) (length ns) (length ns) ≡ node_network dist r2 ps
   unfolding node_network
-  network_front n ns t s {m} e r w c l q =
-      ap₂ {C = Network} (λ (a : List Float) (b : ℕ). network a (length ns) b)
+  network_front n ns t s e r w c l =
+      ap (λ (a : List Float). network a (length ns) (length ns))
       (node_table (weight dist r2 ps) n ns t s r w c (let a = cells_in (length ns) n r.few in omega arith))
-      q ∙ ap (λ (x : List ℕ). network (table_of (weight dist r2 ps) x) (length x) (length x)) e
+      ∙ ap (λ (x : List ℕ). network (table_of (weight dist r2 ps) x) (length x) (length x)) e
 
   pub cluster_is : (single : Bool) (seed : ℕ) {ns gs : List ℕ} {labels : List ℤ} {m : ℕ} (r : Kept) → ns ≡ nodes dist r2 ps → m ≡ length ps → grouping_of gs r ≡ run_infomap (node_network dist r2 ps) seed
       → labels ≡ labels_from single ns gs 0 0 m → clustering_of labels r ≡ cluster dist r2 single seed ps

@@ -1,18 +1,18 @@
 -- Labels of stays and of fixes: read by place, written in loops, and those of the fixes of all traces by their stay numbers.
 use mathlib.Core.Path.{◌≡◌, refl, sym, ap, ◌∙◌}
-use mathlib.Core.Bool.{true, false, false≢true}
 use mathlib.Core.List.{List, [], ◌∷◌, ◌++◌, map}
 use mathlib.Core.Logic.{inl, inr}
 use mathlib.Core.Option.{Option, none, some}
 use Prim.Native.Nat.{ℕ, zero, suc, ◌+◌, ◌*◌, ◌<◌, ◌≤◌}
 use native.Mathlib.Numerals.{add-one}
 use native.Mathlib.Omega.{arith}
-use borrow.Author.Tests.{ltb-true}
 use lib.IntN.{ℤ, pos, negsuc, nat_abs}
-use lib.Signed.{lt_z}
+use mir.Syntax.{w32}
+use mir.Val.{SFits}
+use Rattle.std.specs.Int.{FitsUnsignedBits}
 use lib.ListN.{length, get_or, take, drop, set, length-map, drop_of_length-le}
 use lib.Seq.{drop-cons}
-use lib.Ieee.{Float, nan}
+use lib.Ieee.{Float}
 use Rattle.lists.proofs.Maps.{map_agree, map_map, get_or_map}
 use Rattle.lists.proofs.Written.{written_on, written_end}
 use Rattle.distance.specs.declared.Point.{Point}
@@ -20,7 +20,7 @@ use Rattle.settings.specs.declared.config.Config.{Config}
 use Rattle.trace.specs.Trace.{Fix, fix_count}
 use Rattle.stay.specs.Stays.{all_medians, all_fix_medians}
 use Rattle.stay.specs.StepsAll.{all_events, AllFound}
-use Rattle.stay.proofs.Lies.{no_point, median_at, Number}
+use Rattle.stay.proofs.Lies.{median_at, Number}
 use Rattle.lists.specs.Lists.{minus_one}
 use Rattle.stay.proofs.AllMedians.{all_lies_length}
 use Rattle.stay.proofs.AllEvents.{number_below, all_events_number, all_events_lie}
@@ -28,9 +28,10 @@ use Rattle.distance.specs.Distance.{Metric, euclidean, points}
 use Rattle.std.specs.Prelude.{Some, None}
 use Rattle.std.specs.Prelude as std
 use Rattle.std.specs.Option.{unwrap_or}
-use Rattle.neighbors.specs.Places.{Place, place_of, places_in}
-use Rattle.neighbors.specs.StepsPlaces.{place_found, PlaceFound}
-use Rattle.neighbors.proofs.Sighted.{length_places_in}
+use Rattle.distance.specs.Steps.{no_point, point_at}
+use Rattle.neighbors.specs.Places.{Place, place_of}
+use Rattle.neighbors.specs.StepsPlaces.{place_points, place_found, PlaceFound}
+use Rattle.neighbors.proofs.Within.{length_place_points}
 use Rattle.neighbors.proofs.Search.{found_some, found_no, place_le}
 use Rattle.cluster.specs.FixLabels.{fix_labels, label_for, stay_labels}
 use Rattle.cluster.specs.Steps.{event_label, event_labels}
@@ -41,23 +42,23 @@ place_is : (ps : List Place) (m : Point) (o : std.Option ℕ) {n : ℕ} → o �
 place_is ps m (Some i) e q = (found_some ps m i e).0
 place_is ps m None e q = let a = found_no ps m e in let b = place_le ps m in omega arith
 
-pub label_at_place : (xs ys : List Float) (pl : List ℤ) (m : Point) {o : std.Option ℕ} {l : ℤ} → PlaceFound xs ys m o → length ys ≡ length xs → l ≡ get_or pl (unwrap_or o (length xs)) (negsuc 0)
-    → (cs : List ℕ) → length cs ≡ length xs → l ≡ label_for (places_in xs ys cs) pl (some m)
+pub label_at_place : (qs : List Point) (pl : List ℤ) (m : Point) {o : std.Option ℕ} {n : ℕ} {l : ℤ} → PlaceFound qs m o → n ≡ length qs → l ≡ get_or pl (unwrap_or o n) (negsuc 0)
+    → (ps : List Place) → place_points ps ≡ qs → l ≡ label_for ps pl (some m)
 unfolding label_for
-label_at_place xs ys pl m {o} f p e cs q =
-    e ∙ ap (λ (i : ℕ). get_or pl i (negsuc 0)) (place_is (places_in xs ys cs) m o (f cs q) (sym (length_places_in xs ys cs p q)))
+label_at_place qs pl m {o} f p e ps q =
+    e ∙ ap (λ (i : ℕ). get_or pl i (negsuc 0)) (place_is ps m o (f ps q) (p ∙ sym (ap length q) ∙ length_place_points ps))
 
 -- ---- the label of a stay number
 
-pub no_label : (sl : List ℤ) (e : ℤ) → lt_z e (pos 0) ≡ true → negsuc 0 ≡ event_label sl e
+pub no_label : (sl : List ℤ) (e : ℤ) → SFits w32 e → (FitsUnsignedBits 64 e → ⊥) → negsuc 0 ≡ event_label sl e
 unfolding event_label
-no_label sl (pos n) h = absurd (omega (arith, ltb-true n 0 h))
-no_label sl (negsuc n) h = refl
+no_label sl (pos n) s h = absurd (h (omega (arith, s.sfits)))
+no_label sl (negsuc n) s h = refl
 
-pub label_of : (sl : List ℤ) (e : ℤ) → lt_z e (pos 0) ≡ false → get_or sl (nat_abs e) (negsuc 0) ≡ event_label sl e
+pub label_of : (sl : List ℤ) (e : ℤ) (i : ℕ) → FitsUnsignedBits 64 e × (i ≡ nat_abs e) → get_or sl i (negsuc 0) ≡ event_label sl e
 unfolding event_label
-label_of sl (pos n) h = refl
-label_of sl (negsuc n) h = absurd (false≢true (sym h))
+label_of sl (pos n) i h = rw h.1 refl
+label_of sl (negsuc n) i h = absurd h.0
 
 -- ---- the labels of fixes
 
@@ -77,29 +78,27 @@ module _ (es sl : List ℤ) where
 
 -- ---- the labels of stays
 
-module _ (mx my px py : List Float) (pl : List ℤ) where
+module _ (ms qs : List Point) (pl : List ℤ) where
   unfoldable pub StaysLabelled : List ℤ → ℕ → Type 0
-  StaysLabelled out i = (cs : List ℕ) → length cs ≡ length px → take i out ++ stay_labels (places_in px py cs) pl (points (drop i mx) (drop i my)) ≡ stay_labels (places_in px py cs) pl (points mx my)
+  StaysLabelled out i = (ps : List Place) → place_points ps ≡ qs → take i out ++ stay_labels ps pl (drop i ms) ≡ stay_labels ps pl ms
 
   pub stays_start : (out : List ℤ) → StaysLabelled out 0
   unfolding StaysLabelled
-  stays_start out cs q = refl
+  stays_start out ps q = refl
 
-  pub stay_labelled : (out : List ℤ) (i : ℕ) (v : ℤ) → StaysLabelled out i → i < length mx → length my ≡ length mx → length out ≡ length mx
-      → ((cs : List ℕ) → length cs ≡ length px → v ≡ label_for (places_in px py cs) pl (some (record { x = get_or mx i nan; y = get_or my i nan }))) → StaysLabelled (set out i v) (i + 1)
-  unfolding StaysLabelled stay_labels points
-  stay_labelled out i v inv h l m e cs q =
-      let k : i < length my = omega arith in
-      written_on out (map label (points (drop (i + 1) mx) (drop (i + 1) my))) (map label (points mx my)) i v (omega arith)
-      (rw (e cs q, add-one i) (rw (drop-cons mx i nan h, drop-cons my i nan k) at (inv cs q)))
+  pub stay_labelled : (out : List ℤ) (i : ℕ) (m : Point) (v : ℤ) → StaysLabelled out i → i < length ms → length out ≡ length ms → m ≡ point_at ms i
+      → ((ps : List Place) → place_points ps ≡ qs → v ≡ label_for ps pl (some m)) → StaysLabelled (set out i v) (i + 1)
+  unfolding StaysLabelled stay_labels
+  stay_labelled out i m v inv h l is e ps q =
+      written_on out (map label (drop (i + 1) ms)) (map label ms) i v (omega arith) (rw (e ps q, is, add-one i) (rw (drop-cons ms i no_point h) at (inv ps q)))
     where
       label : Point → ℤ
-      label p = label_for (places_in px py cs) pl (some p)
+      label p = label_for ps pl (some p)
 
-  pub stays_labelled : (out : List ℤ) (i : ℕ) → StaysLabelled out i → length mx ≤ i → length out ≡ length mx
-      → (cs : List ℕ) → length cs ≡ length px → out ≡ stay_labels (places_in px py cs) pl (points mx my)
-  unfolding StaysLabelled stay_labels points
-  stays_labelled out i inv h l cs q = written_end out (map (λ (p : Point). label_for (places_in px py cs) pl (some p)) (points mx my)) i (omega arith) (rw (drop_of_length-le mx {i = i} h) at (inv cs q))
+  pub stays_labelled : (out : List ℤ) (i : ℕ) → StaysLabelled out i → length ms ≤ i → length out ≡ length ms
+      → (ps : List Place) → place_points ps ≡ qs → out ≡ stay_labels ps pl ms
+  unfolding StaysLabelled stay_labels
+  stays_labelled out i inv h l ps q = written_end out (map (λ (p : Point). label_for ps pl (some p)) ms) i (omega arith) (rw (drop_of_length-le ms {i = i} h) at (inv ps q))
 
 -- ---- the labels of the fixes of all traces
 

@@ -1,41 +1,71 @@
 -- The labels of places, as the walk over them writes them: for any nodes, and place by place where the nodes are those of which f holds.
 use mathlib.Core.Path.{◌≡◌, refl, sym, ap, ap₂, ◌∙◌}
 use mathlib.Core.Bool.{Bool, true, false, not, ◌&&◌, cond}
-use mathlib.Core.List.{List, ◌∷◌, ◌++◌, map, append_assoc, append-nil}
-use Prim.Native.Nat.{ℕ, zero, suc, ◌+◌, ◌-◌, ◌<◌, ◌≤◌}
+use mathlib.Core.List.{List, [], ◌∷◌, ◌++◌, map, append_assoc, append-nil}
+use Prim.Native.Nat.{ℕ, zero, suc, ◌+◌, ◌-◌, ◌^◌, ◌<◌, ◌≤◌}
 use native.Mathlib.Numerals.{add-one}
 use native.Mathlib.Nat.{sub-zero}
 use native.Mathlib.Omega.{arith}
 use lib.Dec.{eqb, ltb}
 use lib.IntN.{ℤ, pos, negsuc}
-use lib.ListN.{length, get_or, set, take}
+use lib.ListN.{length, get_or, set, take, drop}
 use lib.Seq.{take_all, take-suc-set}
-use Rattle.std.specs.Prelude.{Option, Some, None}
-use Rattle.std.specs.Option.{is_some}
+use borrow.Author.Tests.{lt-ltb, le-ltb, ne_eqb}
+use Rattle.std.proofs.Common.{Bor, Iter}
+use Rattle.std.specs.declared.iter.Enumerate.{Enumerate}
+use Rattle.std.specs.Prelude.{Option, Some, None, MatchOption}
+use Rattle.lists.proofs.Tests.{eqb_self}
 use Rattle.lists.specs.Lists.{from, upto, position, select}
 use Rattle.cluster.specs.Cluster.{label_count, place_label, labels_from}
-use Rattle.cluster.specs.StepsLabels.{group_at, label_by}
-use Rattle.cluster.proofs.LabelCount.{label_le}
 use Rattle.cluster.proofs.Before.{before, before_on, before_not, node_test, position_is, member_is}
 
--- ---- the group of a place
+-- ---- the nodes that an iterator has left
 
-pub group_le : (ns gs : List ℕ) (u i g : ℕ) → group_at ns gs u i ≡ Some g → g ≤ label_count gs
-unfolding group_at
-group_le ns gs u i g = go (ltb u (length ns) && eqb (get_or ns u 0) i)
-  where
-    go : (b : Bool) → cond b (Some (get_or gs u 0)) None ≡ Some g → g ≤ label_count gs
-    go true e = let q : get_or gs u 0 ≡ g = cc in omega (arith, label_le gs u)
-    go false e = absurd (cc)
+-- u nodes are taken. What was peeked, if anything, is the next node with its number; behind it `rest` is left, counted from `count`.
+abbrev pub Left : List ℕ → ℕ → Option (Option (ℕ × Bor ℕ)) → List ℕ → ℕ → Type 0
+Left ns u peeked rest count =
+    MatchOption peeked ((rest ≡ drop u ns) × (count ≡ u)) (λ o. MatchOption o (drop u ns ≡ []) (λ x. (x.0 ≡ u) × (drop u ns ≡ x.1.now ∷ rest) × (count ≡ u + 1)))
 
-label_grouped : (b : Bool) (g : ℕ) (single : Bool) (l : ℕ) → label_by (cond b (Some g) None) single l ≡ cond b (pos g) (cond single (pos l) (negsuc 0))
-unfolding label_by
-label_grouped true g single l = refl
-label_grouped false g single l = refl
+-- o is what was peeked, or what comes next.
+abbrev pub Next : Option (Option (ℕ × Bor ℕ)) → Option (ℕ × Bor ℕ) → Enumerate (Iter ℕ) → Enumerate (Iter ℕ) → Type 0
+Next peeked o e e' =
+    MatchOption peeked
+    (MatchOption o (((length e.iter.rest.now ≡ 0) × (e'.iter ≡ e.iter)) × (e'.count ≡ e.count))
+    (λ x. (e.iter.rest.now ≡ x.1.now ∷ e'.iter.rest.now) × (x.0 ≡ e.count) × (e'.count ≡ e.count + 1) × (x.0 + 1 < 2 ^ 64)))
+    (λ q. (o ≡ q) × (e' ≡ e))
 
-grouped : (b : Bool) (g : ℕ) → is_some (cond b (Some g) None) ≡ b
-grouped true g = refl
-grouped false g = refl
+none : (l : List ℕ) → length l ≡ 0 → l ≡ []
+none [] e = refl
+none (x ∷ l) e = absurd (omega arith)
+
+pub looked : (ns : List ℕ) (u : ℕ) (peeked : Option (Option (ℕ × Bor ℕ))) (o : Option (ℕ × Bor ℕ)) (e e' : Enumerate (Iter ℕ)) → Left ns u peeked e.iter.rest.now e.count
+    → Next peeked o e e' → Left ns u (Some o) e'.iter.rest.now e'.count × (e'.count + length e'.iter.rest.now ≤ e.count + length e.iter.rest.now)
+looked ns u None None e e' (r, k) ((z, s), q) = (sym r ∙ none e.iter.rest.now z, rw (s, q) (omega arith))
+looked ns u None (Some x) e e' (r, k) (d, n, q, b) = ((n ∙ k, sym r ∙ d, q ∙ ap (λ (z : ℕ). z + 1) k), omega (arith, ap length d))
+looked ns u (Some q) o e e' left (a, s) = rw (a, s) (left, omega arith)
+
+dropped : (ns : List ℕ) (u y : ℕ) (rest : List ℕ) → drop u ns ≡ y ∷ rest → (u < length ns) × (get_or ns u 0 ≡ y) × (rest ≡ drop (suc u) ns)
+dropped [] zero y rest e = absurd (cc)
+dropped [] (suc u) y rest e = absurd (cc)
+dropped (n ∷ ns) zero y rest e = let a : n ≡ y = cc in let b : ns ≡ rest = cc in (omega arith, a, sym b)
+dropped (n ∷ ns) (suc u) y rest e = let d = dropped ns u y rest e in (omega (arith, d.0), d.1, d.2)
+
+past : (ns : List ℕ) (u : ℕ) → drop u ns ≡ [] → length ns ≤ u
+past [] u e = omega arith
+past (n ∷ ns) zero e = absurd (cc)
+past (n ∷ ns) (suc u) e = omega (arith, past ns u e)
+
+-- o is no node, or not place i.
+abbrev pub Other : ℕ → Option (ℕ × Bor ℕ) → Type 0
+Other i o = MatchOption o (Unit {0}) (λ x. x.1.now ≡ i → ⊥)
+
+pub other_by : {P : ℕ × Bor ℕ → Type 0} (i : ℕ) (o : Option (ℕ × Bor ℕ)) → MatchOption o (Unit {0}) P → ((x : ℕ × Bor ℕ) → P x → x.1.now ≡ i → ⊥) → Other i o
+other_by i None p h = tt
+other_by i (Some x) p h = h x p
+
+-- The node that was peeked is taken.
+pub taken : (ns : List ℕ) (u count : ℕ) (x : ℕ × Bor ℕ) (rest : List ℕ) → Left ns u (Some (Some x)) rest count → Left ns (u + 1) None rest count
+taken ns u count x rest (a, d, q) = (rw (add-one u) (dropped ns u x.1.now rest d).2, q)
 
 -- ---- the walk
 
@@ -48,13 +78,29 @@ module _ (single : Bool) (nodes groups : List ℕ) where
   unfolding Walked
   walk_start labels n = ap (labels_from single nodes groups 0 0) (sub-zero n)
 
-  pub walk_on : (labels : List ℤ) (n u i : ℕ) {o : Option ℕ} {m u' : ℕ} {l : ℤ} → Walked labels n u i → i < n → i < length labels
-      → o ≡ group_at nodes groups u i → m ≡ label_count groups → l ≡ label_by o single (m + (i - u)) → u' ≡ cond (is_some o) (u + 1) u → Walked (set labels i l) n u' (i + 1)
-  unfolding Walked labels_from group_at
-  walk_on labels n u i {o} {m} {u'} {l} w h k e b p q =
+  walk_on : (labels : List ℤ) (n u i : ℕ) (node : Bool) {l : ℤ} → Walked labels n u i → i < n → length labels ≡ n → (ltb u (length nodes) && eqb (get_or nodes u 0) i) ≡ node
+      → l ≡ cond node (pos (get_or groups u 0)) (cond single (pos (label_count groups + (i - u))) (negsuc 0)) → Walked (set labels i l) n (cond node (u + 1) u) (i + 1)
+  unfolding Walked labels_from
+  walk_on labels n u i node {l} w h k t b =
       let r : n - i ≡ suc (n - suc i) = omega arith in
-      let node = ltb u (length nodes) && eqb (get_or nodes u 0) i in
-      rw (add-one i, take-suc-set labels i l k, append_assoc, q, p, b, e, label_grouped node (get_or groups u 0) single (label_count groups + (i - u)), grouped node (get_or groups u 0)) (rw r at w)
+      let room : i < length labels = omega arith in
+      rw (add-one i, take-suc-set labels i l room, append_assoc, b, ← t) (rw r at w)
+
+  -- Place i is node x.
+  pub walk_node : (labels : List ℤ) (n u i : ℕ) (x : ℕ × Bor ℕ) (rest : List ℕ) (count : ℕ) {l : ℤ} → Walked labels n u i → i < n → length labels ≡ n
+      → Left nodes u (Some (Some x)) rest count → x.1.now ≡ i → l ≡ pos (get_or groups x.0 0) → Walked (set labels i l) n (u + 1) (i + 1)
+  walk_node labels n u i x rest count w h k (a, d, q) e b =
+      let at = dropped nodes u x.1.now rest d in
+      walk_on labels n u i true w h k (rw (lt-ltb u (length nodes) at.0, at.1, e) (eqb_self i)) (b ∙ ap (λ (z : ℕ). pos (get_or groups z 0)) a)
+
+  -- It is none.
+  pub walk_past : (labels : List ℤ) (n u i : ℕ) (o : Option (ℕ × Bor ℕ)) (rest : List ℕ) (count : ℕ) {l : ℤ} → Walked labels n u i → i < n → length labels ≡ n
+      → Left nodes u (Some o) rest count → Other i o
+      → l ≡ cond single (pos (label_count groups + (i - u))) (negsuc 0) → Walked (set labels i l) n u (i + 1)
+  walk_past labels n u i None rest count w h k d e b = walk_on labels n u i false w h k (rw (le-ltb u (length nodes) (past nodes u d))) b
+  walk_past labels n u i (Some x) rest count w h k (a, d, q) e b =
+      let at = dropped nodes u x.1.now rest d in
+      walk_on labels n u i false w h k (rw (lt-ltb u (length nodes) at.0, at.1) (ne_eqb x.1.now i e)) b
 
   pub walk_end : (labels : List ℤ) (n u i : ℕ) → Walked labels n u i → n ≤ i → length labels ≡ n → labels ≡ labels_from single nodes groups 0 0 n
   unfolding Walked labels_from

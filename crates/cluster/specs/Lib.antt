@@ -2,5 +2,4 @@ pub mod Cluster
 pub mod FixLabels
 pub mod StepsSlices
 pub mod Steps
-pub mod StepsLabels
 pub mod Examples

@@ -1,11 +1,9 @@
 // From the labels of places those of stays and of fixes.
-ghost use Rattle.std.specs.Prelude.{◌≡◌, List, ℕ, negsuc, length, get_or};
-ghost use Rattle.std.proofs.Math.Option.{some};
-ghost use Rattle.neighbors.specs.Places.{places_in};
-ghost use Rattle.cluster.specs.FixLabels.{label_for};
-ghost use Rattle.cluster.specs.Steps.{StayLabelsAre, event_label, event_labels};
+ghost use Rattle.std.specs.Prelude.{◌≡◌, negsuc, length, get_or};
+ghost use Rattle.distance.specs.Steps.{points_of};
+ghost use Rattle.cluster.specs.Steps.{MedianLabelIs, StayLabelsAre, event_label, event_labels};
 
-use distance::Point;
+use distance::{Point, Points};
 use settings::config::Config;
 
 // Label i, or -1 past the end.
@@ -16,33 +14,24 @@ fn label_at(labels: &[i32], i: usize) -> i32
 }
 
 // The label of the place of m, or -1 where it has none.
-// Kept as it is: for no place the label of number `px.len()`, and no match with -1 in it. Tried, and the proof didn't close: `label_for` reads the
+// Kept as it is: for no place the label of number `places.len()`, and no match with -1 in it. Tried, and the proof didn't close: `label_for` reads the
 // label of that number too, and callers may hand over more labels than places, since the contract asks nothing of how many they are.
 #[tactic(auto, using(crate::proofs::FixLabels::label_at_place))]
-fn median_label(px: &[f64], py: &[f64], place_labels: &[i32], m: Point) -> i32
-    requires { length py.now ≡ length px.now }
-    ensures { (cs : List ℕ) → length cs ≡ length px.now → result ≡ label_for (places_in px.now py.now cs) place_labels.now (some m) }
+fn median_label(places: Points, place_labels: &[i32], m: Point) -> i32
+    ensures { MedianLabelIs (points_of places.entry) place_labels.now m result }
 {
-    let place = neighbors::places::place_of(px, py, m);
-    label_at(place_labels, place.unwrap_or(px.len()))
+    let place = neighbors::places::place_of(places, m);
+    label_at(place_labels, place.unwrap_or(places.len()))
 }
 
 // The label of each stay, from its median and the labels of the places.
 #[tactic(auto, using(crate::proofs::FixLabels::stays_start, crate::proofs::FixLabels::stay_labelled, crate::proofs::FixLabels::stays_labelled))]
-pub fn stay_labels(
-    mx: &[f64],
-    my: &[f64],
-    px: &[f64],
-    py: &[f64],
-    place_labels: &[i32],
-    out: &mut [i32],
-)
-    requires { (length my.now ≡ length mx.now) × (length py.now ≡ length px.now) × (length out.old ≡ length mx.now) }
-    ensures { StayLabelsAre mx.now my.now px.now py.now place_labels.now out.new }
+pub fn stay_labels(medians: Points, places: Points, place_labels: &[i32], out: &mut [i32])
+    requires { length out.old ≡ length (points_of medians) }
+    ensures { StayLabelsAre (points_of medians.entry) (points_of places.entry) place_labels.now out.new }
 {
-    for i in 0..mx.len() {
-        let m = Point { x: mx[i], y: my[i] };
-        out[i] = median_label(px, py, place_labels, m);
+    for i in 0..medians.len() {
+        out[i] = median_label(places, place_labels, medians.at(i));
     }
 }
 
@@ -51,10 +40,9 @@ pub fn stay_labels(
 fn event_label(stay_labels: &[i32], e: i32) -> i32
     ensures { result ≡ event_label stay_labels.now e }
 {
-    if e < 0 {
-        -1
-    } else {
-        label_at(stay_labels, e as usize)
+    match usize::try_from(e) {
+        Ok(i) => label_at(stay_labels, i),
+        Err(_) => -1,
     }
 }
 

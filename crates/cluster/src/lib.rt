@@ -5,33 +5,38 @@
 ghost use Rattle.std.specs.Prelude.{◌≡◌, ◌*◌, ◌≤◌, length};
 ghost use Rattle.distance.specs.Distance.{euclidean};
 ghost use Rattle.neighbors.specs.Links.{nodes};
-ghost use Rattle.neighbors.specs.StepsTables.{RowNumbers};
 ghost use Rattle.cluster.specs.Cluster.{cluster};
 ghost use Rattle.cluster.specs.StepsSlices.{ClusteredFrom, clustering_of, Countable};
 
 use infomap::Kept;
+use map_state::WeightTable;
+use neighbors::nodes::Nodes;
 use neighbors::places::Places;
 
 pub mod fixes;
 pub mod labels;
 
-// Groups the linked places by their rows and columns of the table of all n, and labels the n places. The table is work.
+// Groups the linked places by their rows and columns of the table of all places, and labels all. The table is work.
 fn group_and_label(
     table: &mut [f64],
-    n: usize,
-    linked: &[u32],
+    linked: Nodes,
     single: bool,
     seed: u64,
     labels: &mut [i32],
 ) -> Kept
-    requires { (n ≤ 512) × (length table.old ≡ n * n) × (length labels.old ≡ n) × (RowNumbers n linked.now) }
-    ensures { ClusteredFrom n table.old linked.now single seed labels.new result }
+    requires { (length table.old ≡ linked.n * linked.n) × (length labels.old ≡ linked.n) }
+    ensures { ClusteredFrom linked.entry.n table.old linked.entry.numbers.now single seed labels.new result }
 {
-    let k = linked.len();
+    let k = linked.numbers.len();
     let mut groups = [0u32; 512];
-    neighbors::nodes::compact(table, n, linked);
-    let kept = infomap::run_infomap(&table[..k * k], k, &mut groups[..k], seed);
-    labels::label_places(linked, &groups[..k], single, labels);
+    neighbors::nodes::compact(table, linked);
+    let weights = WeightTable {
+        weights: &table[..k * k],
+        stride: k,
+        n: k,
+    };
+    let kept = infomap::run_infomap(weights, &mut groups[..k], seed);
+    labels::label_places(linked.numbers, &groups[..k], single, labels);
     kept
 }
 
@@ -49,8 +54,12 @@ pub fn cluster(
     ensures { clustering_of labels.new result ≡ cluster euclidean r2 single seed places.now }
 {
     let n = places.len();
-    let mut linked = [0u32; 512];
+    let mut found = [0u32; 512];
     neighbors::weights::fill_table(places, r2, table);
-    let k = neighbors::nodes::find_nodes(table, n, &mut linked);
-    group_and_label(table, n, &linked[..k], single, seed, labels)
+    let k = neighbors::nodes::find_nodes(table, n, &mut found);
+    let linked = Nodes {
+        n,
+        numbers: &found[..k],
+    };
+    group_and_label(table, linked, single, seed, labels)
 }

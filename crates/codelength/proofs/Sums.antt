@@ -1,7 +1,7 @@
 -- How the loops of the sums from_partition go on and end.
 use mathlib.Core.Path.{◌≡◌, refl, sym, ap, ◌∙◌}
 use mathlib.Core.Bool.{cond}
-use mathlib.Core.List.{List}
+use mathlib.Core.List.{List, ◌++◌}
 use Prim.Native.Nat.{ℕ, suc, ◌+◌, ◌-◌, ◌<◌, ◌≤◌}
 use native.Mathlib.Numerals.{add-one}
 use native.Mathlib.Nat.{sub-zero}
@@ -9,7 +9,7 @@ use native.Mathlib.Omega.{arith}
 use borrow.Author.Tests.{eq-eqb, ne_eqb}
 use lib.Dec.{eqb}
 use lib.ListN.{length, drop, get_or, set, take, replicate, drop_of_length-le}
-use lib.Seq.{drop-cons, take-set-lt}
+use lib.Seq.{drop-cons, take-set-lt, take_at, length-take-le}
 use Rattle.std.proofs.lemmas.List.{get_or-take}
 use lib.Ieee.{Float, nan}
 use Rattle.float.specs.Binary64.{add64, div64, zero64}
@@ -22,14 +22,15 @@ use Rattle.codelength.specs.Codelength.{add_exit, exit_from, Sums, add_node, add
 use Rattle.map_state.proofs.Leaders.{firsts_of_lem, lowest_of}
 use Rattle.codelength.specs.declared.Terms.{Terms}
 
-pub out_on : (g : ℕ) (a a' : Float) (part : List ℕ) (ws : List Float) (v : ℕ) → v < length part → length ws ≡ length part → a' ≡ add_exit g a (get_or part v 0) (get_or ws v nan)
-    → exit_from g a' (drop (v + 1) part) (drop (v + 1) ws) ≡ exit_from g a (drop v part) (drop v ws)
+-- What is left to add, added to the weight so far, is z: past a node, and at the end.
+pub out_on : (g : ℕ) (a a' : Float) (part : List ℕ) (ws : List Float) (v : ℕ) {z : Float} → exit_from g a (drop v part) (drop v ws) ≡ z → v < length part → length ws ≡ length part
+    → a' ≡ add_exit g a (get_or part v 0) (get_or ws v nan) → exit_from g a' (drop (v + 1) part) (drop (v + 1) ws) ≡ z
 unfolding exit_from
-out_on g a a' part ws v p e r = rw (r, add-one v, drop-cons part v 0 p, drop-cons ws v nan (omega arith))
+out_on g a a' part ws v f p e r = (rw (r, add-one v, drop-cons part v 0 p, drop-cons ws v nan (omega arith))) ∙ f
 
-pub out_end : (g : ℕ) (a : Float) (part : List ℕ) (ws : List Float) (v : ℕ) → length part ≤ v → a ≡ exit_from g a (drop v part) ws
+pub out_end : (g : ℕ) (a : Float) (part : List ℕ) (ws : List Float) (v : ℕ) {z : Float} → exit_from g a (drop v part) ws ≡ z → length part ≤ v → a ≡ z
 unfolding exit_from
-out_end g a part ws v p = rw (drop_of_length-le part {i = v} p)
+out_end g a part ws v e p = rw (drop_of_length-le part {i = v} p) at e
 
 -- the lowest member of the group of node v, where `first` has it, is a node
 pub slot : (part first : List ℕ) (v : ℕ) → Firsts part first → v < length part → get_or first v 0 < length part
@@ -73,13 +74,14 @@ terms_end d part exit strengths t v e h =
     let o : length part - v ≡ 0 = omega arith in
     rw o at e
 
-pub nodes_on : (d a a' : Float) (ss : List Float) (v : ℕ) → v < length ss → a' ≡ add64 a (plogp (div64 (get_or ss v nan) d)) → node_plogp_from d a' (drop (v + 1) ss) ≡ node_plogp_from d a (drop v ss)
+pub nodes_on : (d a : Float) (ss : List Float) (v : ℕ) {x : Float} → node_plogp_from d a (drop v ss) ≡ node_plogp_from d zero64 ss → v < length ss → x ≡ plogp (div64 (get_or ss v nan) d)
+    → node_plogp_from d (add64 a x) (drop (v + 1) ss) ≡ node_plogp_from d zero64 ss
 unfolding node_plogp_from
-nodes_on d a a' ss v h e = rw (e, add-one v, drop-cons ss v nan h)
+nodes_on d a ss v f h e = (rw (e, add-one v, drop-cons ss v nan h)) ∙ f
 
-pub nodes_end : (d a : Float) (ss : List Float) (v : ℕ) → length ss ≤ v → a ≡ node_plogp_from d a (drop v ss)
+pub nodes_end : (d a : Float) (ss : List Float) (v : ℕ) → node_plogp_from d a (drop v ss) ≡ node_plogp_from d zero64 ss → length ss ≤ v → a ≡ node_plogp_from d zero64 ss
 unfolding node_plogp_from
-nodes_end d a ss v h = rw (drop_of_length-le ss {i = v} h)
+nodes_end d a ss v f h = rw (drop_of_length-le ss {i = v} h) at f
 
 -- ---- the code's arrays, of which the first n places are the state
 
@@ -92,6 +94,12 @@ unfolding add_node
 node_view net s n part q e t v f x pp pe pt pq h i p =
     let o : get_or t f nan ≡ get_or s.strengths f nan = sym (get_or-take n t f nan h) ∙ ap (λ (l : List Float). get_or l f nan) pt in
     rw (take-set-lt n e f x h, take-set-lt n t f (add64 (get_or t f nan) (get_or net.strength v nan)) h, pp, pe, pt, pq, o, p, i)
+
+-- the first n places, filled with 0
+pub zeros : (xs ys rest : List Float) {m n : ℕ} → m ≡ n → n ≤ length xs → length ys ≡ length (take m xs) → ys ≡ replicate (length (take m xs)) zero64 → take n (ys ++ rest) ≡ replicate n zero64
+zeros xs ys rest {n = n} e h p q =
+    let x : length (take n xs) ≡ n = length-take-le n xs h in
+    take_at ys rest n (p ∙ rw (e, x)) ∙ q ∙ rw (e, x)
 
 -- the state from its sums
 pub sums_made : (s t : MapState) (z : Sums) → t.partition ≡ s.partition → t.q_sum ≡ s.q_sum → sums_in t ≡ z → t ≡ with_sums s z

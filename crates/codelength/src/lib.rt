@@ -1,13 +1,14 @@
 // The state of a partition with every sum made afresh, and its codelength.
 #![tactic(auto)]
 
-ghost use Rattle.std.specs.Prelude.{◌≡◌, ◌+◌, ◌-◌, ◌*◌, ◌<◌, length};
+ghost use Rattle.std.specs.Prelude.{◌≡◌, ◌+◌, ◌-◌, ◌*◌, ◌<◌, length, get_or};
 ghost use Rattle.float.specs.Binary64.{zero64};
+ghost use Rattle.map_state.specs.Network.{row};
 ghost use Rattle.map_state.specs.Steps.{Fits, AtNode};
 ghost use Rattle.codelength.specs.Codelength.{add_exit, exit_from, add_node, module_sums, from_partition, add_module, terms, node_plogp_from, codelength_of, codelength};
 ghost use Rattle.codelength.specs.Steps.{sums_in, with_sums};
 
-use map_state::{MapState, Network};
+use map_state::{MapState, Network, Row};
 
 // Sums over the groups: q, plogp(q), and plogp(p + q) - plogp(q).
 #[derive(Clone, Copy, Debug, PartialEq)]
@@ -29,15 +30,23 @@ fn add_exit(g: u32, a: f64, p: u32, w: f64) -> f64
 }
 
 // The weights of a row that leave the group g, added to `start`.
-fn exit_weights(partition: &[u32], row: &[f64], g: u32, start: f64) -> f64
-    requires { length row.now ≡ length partition.now }
-    ensures { result ≡ exit_from g start partition.now row.now }
+fn exit_weights(row: Row, g: u32, start: f64) -> f64
+    ensures { result ≡ exit_from g start row.entry.partition.now row.entry.weights.now }
 {
     let mut a = start;
-    for v in 0..partition.len() {
-        a = add_exit(g, a, partition[v], row[v]);
+    for (v, &p) in row.partition.iter().enumerate() {
+        a = add_exit(g, a, p, row.weights[v]);
     }
     a
+}
+
+// The weights of node v's links that leave its group, added to `start`.
+fn exit_of(net: &Network, s: &MapState, v: usize, start: f64) -> f64
+    requires { AtNode net.now s.now v }
+    ensures { result ≡ exit_from (get_or s.now.partition v 0) start s.now.partition (row net.now v) }
+{
+    let row = s.row(net, v);
+    exit_weights(row, row.partition[v], start)
 }
 
 // Adds node v to its group's sums.
@@ -47,26 +56,26 @@ fn add_node(net: &Network, s: &mut MapState, v: usize)
     ensures { s.new ≡ with_sums s.old (add_node net.now s.old.partition (sums_in s.old) v) }
 {
     let f = s.first()[v] as usize;
-    let g = s.partition()[v];
-    let x = exit_weights(s.partition(), net.row(v), g, s.exits()[f]);
-    s.exits[f] = x;
+    s.exits[f] = exit_of(net, s, v, s.exits()[f]);
     s.strengths[f] += net.strength()[v];
 }
 
 // Makes the groups' sums afresh.
+#[tactic(auto, using(crate::proofs::Sums::nodes_added_on, crate::proofs::Sums::nodes_added_end, crate::proofs::Sums::sums_made))]
 fn sum_modules(net: &Network, s: &mut MapState)
     requires { Fits net.now s.old }
     ensures { s.new ≡ with_sums s.old (module_sums net.now s.old.partition) }
 {
     let n = s.partition().len();
-    s.exits.fill(0.0);
-    s.strengths.fill(0.0);
+    s.exits[..n].fill(0.0);
+    s.strengths[..n].fill(0.0);
     for v in 0..n {
         add_node(net, s, v);
     }
 }
 
 // Makes the state of a partition afresh.
+#[tactic(auto, using(crate::proofs::Sums::from_partition_is))]
 pub fn from_partition(net: &Network, s: &mut MapState)
     requires { Fits net.now s.old }
     ensures { s.new ≡ from_partition net.now s.old.partition }
@@ -101,14 +110,15 @@ fn sum_terms(s: &MapState, d: f64) -> Terms
         sum_plogp_q: 0.0,
         term2: 0.0,
     };
-    for v in 0..first.len() {
-        if first[v] as usize == v {
+    for (v, &f) in first.iter().enumerate() {
+        if f as usize == v {
             t = add_module(d, t, exits[v], strengths[v]);
         }
     }
     t
 }
 
+#[tactic(auto, using(crate::proofs::Sums::nodes_on, crate::proofs::Sums::nodes_end))]
 fn node_plogp_sum(strength: &[f64], d: f64) -> f64
     ensures { result ≡ node_plogp_from d zero64 strength.now }
 {
@@ -127,6 +137,7 @@ fn codelength_of(t: Terms, nodes: f64) -> f64
 }
 
 // The codelength of a partition; the state is left with the groups' sums afresh.
+#[tactic(auto, using(crate::proofs::Sums::codelength_is))]
 pub fn map_equation(net: &Network, s: &mut MapState) -> f64
     requires { Fits net.now s.old }
     ensures { (result ≡ codelength net.now s.old.partition) × (s.new ≡ with_sums s.old (module_sums net.now s.old.partition)) }

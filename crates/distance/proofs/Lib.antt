@@ -4,3 +4,4 @@ pub mod Symmetric
 pub mod Bound
 pub mod Limit
 pub mod GridLaws
+pub mod Columns

@@ -1,4 +1,5 @@
 pub mod Distance
 pub mod Limit
 pub mod Grid
+pub mod Steps
 pub mod Examples

@@ -1,7 +1,7 @@
-// Points of the plane and their distance.
+// Points of the plane, columns of them, and their distance.
 #![tactic(auto)]
 
-ghost use Rattle.std.specs.Prelude.{◌≡◌};
+ghost use Rattle.std.specs.Prelude.{◌≡◌, ◌<◌, length};
 ghost use Rattle.distance.specs.Distance.{Measured};
 ghost use Rattle.distance.specs.Limit.{limit, within, in_limit};
 
@@ -12,6 +12,39 @@ pub mod grid;
 pub struct Point {
     pub x: f64,
     pub y: f64,
+}
+
+// Points in columns that are only read: point i is at xs[i], ys[i].
+// Kept as it is: two columns, and no slice of `Point`: the rules' slices hold numbers, x and y apart (docs/DECISIONS.md, "Forms").
+#[derive(Clone, Copy, Debug, PartialEq)]
+pub struct Points<'a> {
+    pub xs: &'a [f64],
+    pub ys: &'a [f64],
+    pub ghost ys_length: { length ys.now ≡ length xs.now },
+}
+
+impl<'a> Points<'a> {
+    ghost use Rattle.distance.specs.Steps.{points_of, point_at};
+
+    // How many points there are.
+    #[tactic(auto, using(crate::proofs::Columns::length_points))]
+    pub fn len(self) -> usize
+        ensures { result ≡ length (points_of self.entry) }
+    {
+        self.xs.len()
+    }
+
+    // Point i.
+    #[tactic(auto, using(crate::proofs::Columns::length_points, crate::proofs::Columns::point_read))]
+    pub fn at(self, i: usize) -> Point
+        requires { i < length (points_of self) }
+        ensures { result ≡ point_at (points_of self.entry) i }
+    {
+        Point {
+            x: self.xs[i],
+            y: self.ys[i],
+        }
+    }
 }
 
 // The size limit of coordinates.

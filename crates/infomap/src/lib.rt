@@ -4,12 +4,12 @@
 
 ghost use Rattle.std.specs.Prelude.{◌≡◌, ◌+◌, ◌-◌, ◌*◌, ◌<◌, ◌≤◌, length};
 ghost use Rattle.map_state.specs.Network.{network};
-ghost use Rattle.map_state.specs.Steps.{Rows, Fits};
+ghost use Rattle.map_state.specs.Steps.{Fits};
 ghost use Rattle.optimize.specs.Steps.{run_of};
 ghost use Rattle.infomap.specs.Infomap.{mark_of, trial_mark, keep, best_of_three, kept_grouping, relabel_dense, run_infomap};
 ghost use Rattle.infomap.specs.Steps.{grouping_of};
 
-use map_state::Network;
+use map_state::{Network, WeightTable};
 use optimize::RunState;
 
 // The kept trial's last round moved nothing; it still did, as round 100; no trial was kept.
@@ -36,6 +36,7 @@ fn trial_mark(moved: bool) -> Mark
 }
 
 // Keeps a trial, if its codelength is below that of k: its groups are left in `best`.
+#[tactic(auto, using(crate::proofs::Trials::keep_yes, crate::proofs::Trials::keep_no))]
 fn keep(net: &Network, t: &mut RunState, best: &mut [u32], k: Kept) -> Kept
     requires { (Fits net.now t.old.state) × (length best.old ≡ length t.old.state.partition) }
     ensures { (grouping_of best.new result ≡ keep net.now (grouping_of best.old k) (run_of t.old))
@@ -54,6 +55,7 @@ fn keep(net: &Network, t: &mut RunState, best: &mut [u32], k: Kept) -> Kept
 }
 
 // Three trials from the generator's state `rng`: the kept grouping is left in `best`.
+#[tactic(auto, using(rng::proofs::Counts::counted, optimize::proofs::Ends::trial_length, crate::proofs::Trials::trials_on, crate::proofs::Trials::trials_end), unfolding(crate::specs::Infomap::best_of_three, crate::specs::Infomap::mark_of))]
 fn best_of_three(net: &Network, best: &mut [u32], rng: u64) -> Kept
     requires { length best.old ≡ length net.now.strength }
     ensures { grouping_of best.new result ≡ best_of_three net.now rng }
@@ -76,6 +78,7 @@ fn best_of_three(net: &Network, best: &mut [u32], rng: u64) -> Kept
 }
 
 // The kept grouping of a seed, in internal numbers, left in `best`.
+#[tactic(auto, using(rng::proofs::Counts::counted, crate::proofs::Trials::kept_links, crate::proofs::Trials::kept_none), unfolding(crate::specs::Infomap::mark_of))]
 fn kept_grouping(net: &Network, best: &mut [u32], seed: u64) -> Kept
     requires { length best.old ≡ length net.now.strength }
     ensures { grouping_of best.new result ≡ kept_grouping net.now seed }
@@ -93,13 +96,15 @@ fn kept_grouping(net: &Network, best: &mut [u32], seed: u64) -> Kept
 }
 
 // Numbers the groups 0 up by first member.
+// Kept as it is: a number counted beside the loop. Taken from a range it would be `next().unwrap_or(0)`, with a number that is never used.
+#[tactic(auto, using(crate::proofs::Labels::rank_le, crate::proofs::Labels::is_relabelled), unfolding(crate::specs::Infomap::rank))]
 fn relabel_dense(partition: &[u32], labels: &mut [u32])
     requires { (length labels.old ≡ length partition.now) × (length partition.now ≤ 512) }
     ensures { labels.new ≡ relabel_dense partition.now }
 {
     let mut next: u32 = 0;
-    for v in 0..partition.len() {
-        match map_state::lowest(partition, partition[v]) {
+    for (v, &p) in partition.iter().enumerate() {
+        match map_state::lowest(partition, p) {
             Some(f) if f < v => labels[v] = labels[f],
             _ => {
                 labels[v] = next;
@@ -109,14 +114,13 @@ fn relabel_dense(partition: &[u32], labels: &mut [u32])
     }
 }
 
-// The grouping of the nodes, as many as `labels` is long, whose weights stand in the table: each node's label, and the mark,
-// the rounds and the codelength of the kept trial.
-pub fn run_infomap(table: &[f64], stride: usize, labels: &mut [u32], seed: u64) -> Kept
-    requires { Rows table.now stride (length labels.old) }
-    ensures { grouping_of labels.new result ≡ run_infomap (network table.now stride (length labels.old)) seed }
+// The grouping of the nodes whose weights stand in the table: each node's label, and the mark, the rounds and the codelength of the kept trial.
+pub fn run_infomap(table: WeightTable, labels: &mut [u32], seed: u64) -> Kept
+    requires { length labels.old ≡ table.n }
+    ensures { grouping_of labels.new result ≡ run_infomap (network table.entry.weights.now table.entry.stride table.entry.n) seed }
 {
-    let n = labels.len();
-    let net = Network::new(table, stride, n);
+    let n = table.n;
+    let net = Network::new(table);
     let mut best = [0u32; 512];
     let k = kept_grouping(&net, &mut best[..n], seed);
     relabel_dense(&best[..n], labels);

@@ -1,5 +1,5 @@
 -- From the places and their clustering to the end of the fit.
-use mathlib.Core.Path.{◌≡◌, refl, sym, ap, ap₂, ◌∙◌, subst}
+use mathlib.Core.Path.{◌≡◌, refl, sym, ap, ◌∙◌, subst}
 use mathlib.Core.Bool.{Bool, true, false}
 use mathlib.Core.List.{List, ◌++◌}
 use Rattle.std.specs.Prelude.{Result, Ok, Err}
@@ -12,7 +12,7 @@ use lib.ListN.{length, take, drop}
 use lib.Ieee.{Float}
 use Rattle.lists.specs.Lists.{overlay}
 use Rattle.distance.specs.declared.Point.{Point}
-use Rattle.distance.specs.Distance.{euclidean, points}
+use Rattle.distance.specs.Distance.{euclidean}
 use Rattle.trace.specs.Trace.{Fix}
 use Rattle.neighbors.specs.Places.{Place, places}
 use Rattle.neighbors.specs.StepsPlaces.{front}
@@ -32,8 +32,9 @@ use Rattle.infostop.specs.declared.answer.Labelled.{Labelled}
 use Rattle.infostop.specs.declared.steps.PlaceArrays.{PlaceArrays}
 use Rattle.infostop.specs.Models.{fitted_model, model_after}
 use Rattle.infostop.specs.Ends.{refused_with, labelled_by, told, told_by, labels_after, Ended}
-use Rattle.infostop.specs.Steps.{Space, medians_in, in_arrays, places_found, from_clustering, outcome_in, Grouped, fit_from, places_outcome}
-use Rattle.lists.proofs.Parts.{take_drop_take}
+use Rattle.stay.specs.StepsAll.{medians_in}
+use Rattle.stay.proofs.MediansRead.{medians_front}
+use Rattle.infostop.specs.Steps.{Space, in_arrays, places_found, from_clustering, outcome_in, Grouped, fit_from, places_outcome}
 use Rattle.infostop.proofs.Arrays.{array, array_part, array_whole}
 use Rattle.infostop.proofs.Placed.{found_some, found_none, count_few, front_is}
 
@@ -73,8 +74,8 @@ module _ (m : Infostop) (cap k : ℕ) (floats : List Float) (words old : List �
   abbrev K : Clustering
   K = cluster euclidean c.r2 c.label_singleton c.seed ps
 
-  in_front : points (take k (drop (2 * length old) (take (4 * length old) floats))) (take k (drop (3 * length old) (take (4 * length old) floats))) ≡ medians_in (length old) k floats
-  in_front = ap₂ points (take_drop_take (2 * length old) k (4 * length old) floats (omega arith) room) (take_drop_take (3 * length old) k (4 * length old) floats (omega arith) room)
+  in_front : medians_in (length old) k (take (4 * length old) floats) ≡ medians_in (length old) k floats
+  in_front = medians_front (length old) k floats few_stays room
 
   pub medians_found : medians_in (length old) k floats ≡ all_medians euclidean c ts
   medians_found = sym in_front ∙ f.medians

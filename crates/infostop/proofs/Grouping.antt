@@ -1,17 +1,14 @@
 -- From the clustering of the places to the outcome.
-use mathlib.Core.Path.{◌≡◌, sym, ap, ap₂, ◌∙◌}
+use mathlib.Core.Path.{◌≡◌, sym, ap, ◌∙◌}
 use mathlib.Core.Bool.{Bool, true, false}
 use mathlib.Core.List.{List, []}
 use Rattle.std.specs.Prelude.{Ok, Err}
-use Prim.Native.Nat.{ℕ, ◌+◌, ◌*◌, ◌≤◌}
-use native.Mathlib.Nat.{add-sub_cancel_left}
-use native.Mathlib.Omega.{arith}
+use Prim.Native.Nat.{ℕ, ◌*◌, ◌≤◌}
 use lib.IntN.{ℤ}
-use lib.ListN.{length, take, drop}
+use lib.ListN.{length, take}
 use lib.Ieee.{Float}
 use Rattle.distance.specs.declared.Point.{Point}
 use Rattle.neighbors.specs.Places.{Place}
-use Rattle.distance.specs.Distance.{points}
 use Rattle.infomap.specs.declared.Kept.{Kept}
 use Rattle.cluster.specs.Cluster.{Clustering, none_labelled}
 use Rattle.cluster.specs.StepsSlices.{clustering_of}
@@ -23,22 +20,10 @@ use Rattle.settings.specs.declared.refusal.Refusal.TheVariants.{NoStop}
 use Rattle.infostop.specs.Facts
 use Rattle.infostop.specs.Fit.{refused, fitted, unless_none}
 use Rattle.infostop.specs.Ends.{told, labels_after}
-use Rattle.infostop.specs.Steps.{medians_in, fitted_by, from_clustering, clustering_in, Grouped, FixLabelsAre}
-use Rattle.lists.proofs.Parts.{lent, back, back_before}
-
--- The medians, by where their parts start and end.
-medians_are : (n k : ℕ) (floats : List Float) → points (lent (2 * n) (2 * n + k) floats) (lent (3 * n) (3 * n + k) floats) ≡ medians_in n k floats
-medians_are n k floats =
-    ap₂ points (ap (λ (z : ℕ). take z (drop (2 * n) floats)) (add-sub_cancel_left (2 * n) k)) (ap (λ (z : ℕ). take z (drop (3 * n) floats)) (add-sub_cancel_left (3 * n) k))
-
--- They are in front of the table that the grouping is lent.
-medians_kept : (n k e : ℕ) (t floats : List Float) → k ≤ n → 4 * n ≤ length floats → medians_in n k (back (4 * n) e t floats) ≡ medians_in n k floats
-medians_kept n k e t floats h q =
-    sym (medians_are n k (back (4 * n) e t floats))
-    ∙ ap₂ points
-    (back_before (2 * n) (2 * n + k) (4 * n) e t floats (omega arith) (omega arith) q)
-    (back_before (3 * n) (3 * n + k) (4 * n) e t floats (omega arith) (omega arith) q)
-    ∙ medians_are n k floats
+use Rattle.infostop.specs.Steps.{fitted_by, from_clustering, clustering_in, Grouped, FixLabelsAre}
+use Rattle.lists.proofs.Parts.{back}
+use Rattle.stay.specs.StepsAll.{medians_in}
+use Rattle.stay.proofs.MediansRead.{medians_kept}
 
 none_outcome : (ps : List Place) (ms : List Point) (es : List ℤ) (k : Clustering) → none_labelled k.labels ≡ true → from_clustering ps ms es k ≡ refused NoStop
 unfolding from_clustering unless_none

@@ -1,6 +1,6 @@
 -- The places of the stays' medians: how many they are, and the arrays that hold them.
 use mathlib.Core.Path.{◌≡◌, refl, sym, ap, ◌∙◌, subst}
-use mathlib.Core.List.{List, [], ◌∷◌, ◌++◌}
+use mathlib.Core.List.{List, ◌++◌}
 use Rattle.std.specs.Prelude.{Option, Some, None, Ok, Err}
 use Prim.Native.Nat.{ℕ, ◌*◌, ◌<◌, ◌≤◌}
 use native.Mathlib.Decide.{dec_lt}
@@ -14,7 +14,6 @@ use Rattle.lists.specs.Lists.{overlay}
 use Rattle.lists.proofs.Overlay.{take_front}
 use Rattle.float.specs.Binary64.{zero64}
 use Rattle.distance.specs.declared.Point.{Point}
-use Rattle.distance.specs.Distance.{points}
 use Rattle.neighbors.specs.Places.{Place, place_at, places, place_xs, place_ys}
 use Rattle.neighbors.specs.StepsPlaces.{places_within, front, place_counts, distinct_within}
 use Rattle.neighbors.proofs.Within.{within_some, within_none, within_places, length_place_xs, length_place_ys, length_place_counts, places_columns}
@@ -90,17 +89,11 @@ front_is a ps e = rw e (front_arrays ps)
 pub count_few : (cap : ℕ) (ps : List Place) (a : PlaceArrays) → cap ≤ 512 → Ok a ≡ places_found cap ps → a.count ≤ 512
 count_few cap ps a h e = let f = found_some cap ps a e in rw f.1 (omega (arith, f.0))
 
-points_few : (xs ys : List Float) → length (points xs ys) ≤ length xs
-unfolding points
-points_few [] ys = omega arith
-points_few (x ∷ xs) [] = omega arith
-points_few (x ∷ xs) (y ∷ ys) = omega (arith, points_few xs ys)
-
 -- What `label_tracks` asks of the places of k medians.
-module _ (cap n k floats words : ℕ) (few : cap ≤ 512) (space : Space n k cap floats words) (mx my : List Float) (long : length mx ≡ k) (a : PlaceArrays)
-    (e : Ok a ≡ places_found cap (places (points mx my))) where
+module _ (cap n k floats words : ℕ) (few : cap ≤ 512) (space : Space n k cap floats words) (ms : List Point) (long : length ms ≡ k) (a : PlaceArrays)
+    (e : Ok a ≡ places_found cap (places ms)) where
   abbrev ps : List Place
-  ps = places (points mx my)
+  ps = places ms
 
   abbrev qs : List Place
   qs = front a.xs a.ys a.counts a.count
@@ -118,8 +111,8 @@ module _ (cap n k floats words : ℕ) (few : cap ≤ 512) (space : Space n k cap
   place_slices = record {
     labels_length = array_part (negsuc 0) a.count (count_few cap ps a few e) ∙ count_is;
     few = omega (arith, places_few);
-    counted = subst (λ (z : List Place). (i : ℕ) → i < length z → 0 < (place_at z i).count) (sym are) (counted (points mx my));
-    stays = rw are (omega (arith, all_counted (points mx my), points_few mx my, space.few_stays, space.few_fixes));
+    counted = subst (λ (z : List Place). (i : ℕ) → i < length z → 0 < (place_at z i).count) (sym are) (counted ms);
+    stays = rw are (omega (arith, all_counted ms, space.few_stays, space.few_fixes));
   }
 
   label_space : Space n k (length qs) floats words

@@ -17,9 +17,10 @@ use Rattle.trace.specs.Trace.{Fix}
 use Rattle.neighbors.specs.Places.{places}
 use Rattle.settings.specs.declared.refusal.Refusal.TheVariants.{NoStop}
 use Rattle.checks.specs.Tracks.{check_tracks}
+use Rattle.checks.proofs.Lengths.{Agreed}
 use Rattle.checks.proofs.Accepted.{AcceptedFit, tracks_accepted}
 use Rattle.stay.specs.Stays.{all_medians}
-use Rattle.stay.specs.StepsAll.{AllLengths, AllFound}
+use Rattle.stay.specs.StepsAll.{AllRoom, AllFound}
 use Rattle.infostop.specs.Fit.{refused, from_places, from_medians, fit_traces}
 use Rattle.infostop.specs.Steps.{Space, places_outcome}
 use Rattle.lists.proofs.Parts.{lent, back, lent_length, back_length}
@@ -45,14 +46,13 @@ module _ (xs ys ts : List Float) (ms lens : List ℕ) (floats : List Float) (wor
   pub few_places : cap ≤ 512
   few_places = accepted.few_places
 
-  pub all_lengths : AllLengths (length xs) (length ys) (length ts) (length ms) (length (lent 0 n words)) (length (lent 0 (4 * n) floats)) lens
-  all_lengths = record {
-    ys_length = accepted.tracks.agreed.ys_length;
-    times_length = accepted.tracks.agreed.times_length;
-    marks_length = accepted.tracks.agreed.marks_length;
+  pub agreed : Agreed lens (length xs) (length ys) (length ts) (length ms) n
+  agreed = accepted.tracks.agreed
+
+  pub all_room : AllRoom (length xs) (length (lent 0 n words)) (length (lent 0 (4 * n) floats))
+  all_room = record {
     events_length = lent_length 0 n words (omega arith) words_room ∙ sub-zero n ∙ fixes_labels;
     work_length = lent_length 0 (4 * n) floats (omega arith) floats_room ∙ sub-zero (4 * n) ∙ ap (λ (z : ℕ). 4 * z) fixes_labels;
-    sum = accepted.tracks.agreed.sum;
     few = accepted.tracks.few_fixes;
   }
 

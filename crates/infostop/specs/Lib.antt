@@ -3,6 +3,7 @@ pub mod Demand
 pub mod Tries
 pub mod Facts
 pub mod Models
+pub mod ModelPlaces
 pub mod NewModel
 pub mod FittedModels
 pub mod Ends

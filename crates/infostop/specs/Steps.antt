@@ -1,16 +1,16 @@
 -- Serves the contracts of this crate's own functions; no public contract reaches it.
 -- What the steps of the code ask for and work out.
-use Rattle.std.specs.Prelude.{◌≡◌, ℕ, ◌+◌, ◌*◌, ◌<◌, ◌≤◌, cond, List, leb, ltb, ℤ, length, take, drop, replicate, Float, Result, Ok, Err}
+use Rattle.std.specs.Prelude.{◌≡◌, ℕ, ◌+◌, ◌*◌, ◌<◌, ◌≤◌, cond, List, leb, ltb, ℤ, length, take, replicate, Float, Result, Ok, Err}
 use Rattle.lists.specs.Lists.{overlay}
 use Rattle.float.specs.Binary64.{zero64}
 use Rattle.distance.specs.declared.Point.{Point}
-use Rattle.distance.specs.Distance.{euclidean, points}
+use Rattle.distance.specs.Distance.{euclidean}
 use Rattle.trace.specs.Trace.{Fix}
 use Rattle.neighbors.specs.Places.{Place, place_at, places, place_xs, place_ys}
 use Rattle.neighbors.specs.StepsPlaces.{stay_count, place_counts}
 use Rattle.cluster.specs.Cluster.{Clustering, cluster, none_labelled}
 use Rattle.stay.specs.Stays.{all_medians}
-use Rattle.stay.specs.StepsAll.{AllFound}
+use Rattle.stay.specs.StepsAll.{medians_in, AllFound}
 use Rattle.cluster.specs.FixLabels.{stay_labels}
 use Rattle.cluster.specs.Steps.{event_labels}
 use Rattle.settings.specs.declared.config.Config.{Config}
@@ -50,10 +50,6 @@ pub record Space (n k p floats words : ℕ) : Type 0 where
   pub few_stays : k ≤ n
   pub floats_length : 4 * n + p * p ≤ floats
   pub words_length : n + n ≤ words
-
--- The medians of k stays, in the third and the fourth n of a work slice.
-abbrev pub medians_in : ℕ → ℕ → List Float → List Point
-medians_in n k floats = points (take k (drop (2 * n) floats)) (take k (drop (3 * n) floats))
 
 -- What is given for places whose clustering is k: the stays have the medians ms, and the fixes the stay numbers es.
 abbrev pub fitted_by : List Place → List Point → List ℤ → Clustering → Fitted

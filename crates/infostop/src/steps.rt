@@ -1,30 +1,28 @@
 // The steps of a fit whose tracks have passed the checks: stays, places, labels of places, labels of fixes.
 // Kept as it is: arrays of fixed size, of which a part is lent, since the project's memory is fixed and it takes no heap.
+// Kept as it is: the work slices `labels`, `floats` and `words` go together through `label_tracks`, `from_medians`, `from_tracks`, `fit_tracks` and
+// `fit_predict_many` (`label_fixes` takes two of them), and are parameters of their own. They are the caller's, lent to be written, and each step cuts them
+// differently. A struct of `&mut` slices is no plainer: each contract would also have to say that every field still holds the slice that it held.
 ghost use Rattle.std.specs.Prelude.{◌≡◌, ◌+◌, ◌*◌, ◌≤◌, length, Ok};
-ghost use Rattle.distance.specs.Distance.{points};
+ghost use Rattle.distance.specs.Steps.{points_of};
 ghost use Rattle.trace.specs.Given.{traces_of};
 ghost use Rattle.neighbors.specs.Places.{places};
 ghost use Rattle.checks.specs.Tracks.{check_tracks};
-ghost use Rattle.infostop.specs.Steps.{PlaceSlices, Space, medians_in, places_found, Grouped, FixLabelsAre, EndsFromStays, EndsFromTracks};
+ghost use Rattle.infostop.specs.Steps.{PlaceSlices, Space, places_found, Grouped, FixLabelsAre, EndsFromStays, EndsFromTracks};
 
 use crate::answer::Labelled;
 use crate::model::Infostop;
+use distance::Points;
 use neighbors::places::Places;
 use settings::config::Config;
 use settings::refusal::Refusal;
+use stay::all::{all_stays, medians};
 use trace::Tracks;
-
-// The medians of k stays: the first k of the third and of the fourth n of a work slice for n fixes.
-fn medians(floats: &[f64], n: usize, k: usize) -> (&[f64], &[f64])
-    requires { (n ≤ 65536) × (k ≤ n) × (4 * n ≤ length floats.now) }
-    ensures { (points result.0.now result.1.now ≡ medians_in n k floats.now) × (length result.0.now ≡ k) × (length result.1.now ≡ k) }
-{
-    let (x, y) = (2 * n, 3 * n);
-    (&floats[x..x + k], &floats[y..y + k])
-}
+use trace::agreed::Agreed;
 
 // Places in front of arrays of 512, as the model holds them, and how many there are.
 // Kept as it is: arrays of fixed size with a count beside them, since the model, whose form is the rules', takes them over, and there is no heap.
+// `replay_neighbors` has three arrays of 128 for the same, which end with the function that has them.
 #[derive(Drop)]
 struct PlaceArrays {
     xs: [f64; 512],
@@ -35,16 +33,15 @@ struct PlaceArrays {
 
 // The places of medians, and 19 where they are more than the cap.
 #[tactic(auto, using(crate::proofs::Placed::too_many))]
-fn find_places(mx: &[f64], my: &[f64], cap: usize) -> Result<PlaceArrays, Refusal>
-    requires { (length my.now ≡ length mx.now) × (length mx.now ≤ 65536) × (cap ≤ 512) }
-    ensures { result ≡ places_found cap (places (points mx.now my.now)) }
+fn find_places(medians: Points, cap: usize) -> Result<PlaceArrays, Refusal>
+    requires { (length (points_of medians) ≤ 65536) × (cap ≤ 512) }
+    ensures { result ≡ places_found cap (places (points_of medians.entry)) }
 {
     let mut xs = [0.0; 512];
     let mut ys = [0.0; 512];
     let mut counts = [0u32; 512];
     let found = neighbors::places::distinct(
-        mx,
-        my,
+        medians,
         &mut xs[..cap],
         &mut ys[..cap],
         &mut counts[..cap],
@@ -61,20 +58,13 @@ fn find_places(mx: &[f64], my: &[f64], cap: usize) -> Result<PlaceArrays, Refusa
 }
 
 // The labels of the fixes, from their stay numbers in front of `words`; behind them stand the labels of the stays. The places have the labels pl.
-fn label_fixes(
-    mx: &[f64],
-    my: &[f64],
-    places: &Places,
-    pl: &[i32],
-    words: &mut [i32],
-    labels: &mut [i32],
-)
-    requires { (length my.now ≡ length mx.now) × (length labels.old + length mx.now ≤ length words.old) }
-    ensures { FixLabelsAre (points mx.now my.now) places.now pl.now words.old (length labels.old) labels.new }
+fn label_fixes(medians: Points, places: &Places, pl: &[i32], words: &mut [i32], labels: &mut [i32])
+    requires { length labels.old + length (points_of medians) ≤ length words.old }
+    ensures { FixLabelsAre (points_of medians.entry) places.now pl.now words.old (length labels.old) labels.new }
 {
     let n = labels.len();
-    let end = n + mx.len();
-    cluster::fixes::stay_labels(mx, my, places.xs, places.ys, pl, &mut words[n..end]);
+    let end = n + medians.len();
+    cluster::fixes::stay_labels(medians, places.points(), pl, &mut words[n..end]);
     cluster::fixes::fix_labels(&words[0..n], &words[n..end], labels);
 }
 
@@ -105,8 +95,7 @@ fn label_tracks(
     if cluster::labels::none_labelled(pl) {
         return Err(Refusal::NoStop);
     }
-    let (mx, my) = medians(floats, n, k);
-    label_fixes(mx, my, places, pl, words, labels);
+    label_fixes(medians(floats, n, k), places, pl, words, labels);
     Ok(Labelled {
         mark: kept.mark,
         rounds: kept.rounds,
@@ -126,8 +115,7 @@ fn from_medians(
     requires { (cap ≤ 512) × (Space (length labels.old) k cap (length floats.old) (length words.old)) }
     ensures { EndsFromStays model.now k cap floats.old words.old labels.old result labels.new }
 {
-    let (mx, my) = medians(floats, labels.len(), k);
-    let found = find_places(mx, my, cap)?;
+    let found = find_places(medians(floats, labels.len(), k), cap)?;
     let p = found.count;
     let places = Places {
         xs: &found.xs[..p],
@@ -156,6 +144,7 @@ fn from_medians(
 }
 
 // The fit of tracks that have passed the checks.
+#[tactic(auto, using(crate::proofs::Stays::floats_room, crate::proofs::Stays::words_room, crate::proofs::Stays::few_places, crate::proofs::Stays::agreed, crate::proofs::Stays::all_room, crate::proofs::Stays::no_stay, crate::proofs::Stays::some_stay, crate::proofs::Stays::found_there))]
 pub fn from_tracks(
     model: &Infostop,
     t: Tracks,
@@ -169,7 +158,8 @@ pub fn from_tracks(
 {
     let n = labels.len();
     let end = 4 * n;
-    let k = stay::all::all_stays(t, model.config, &mut floats[0..end], &mut words[0..n]);
+    let t = Agreed { tracks: t };
+    let k = all_stays(t, model.config, &mut floats[0..end], &mut words[0..n]);
     if k == 0 {
         return Err(Refusal::NoStop);
     }

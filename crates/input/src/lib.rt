@@ -1,7 +1,9 @@
 // Standard input, read to its end in pieces of up to 65,536 bytes, whatever its length. A call of `read` that fails is not the end: the text is then
 // refused (22). No contract can name what a call gave, so it is said of each call by itself (`take_piece`, exactly) and of the calls together (`read_input`).
 // Kept as it is: each function takes the columns as five slices. In a struct lent by `&mut` each of them, and the loop, would have to say of all five that
-// they are still the caller's (`c.new.xs.ghost_name ≡ c.old.xs.ghost_name` and so on), as is told at `feed` of crate `text`.
+// they are still the caller's (`c.new.xs.ghost_name ≡ c.old.xs.ghost_name` and so on), as is told at `feed` of crate `text`; a struct that owns arrays
+// would ask for arrays of its size, where these take slices of any length. Messages go to standard error by `io` and its number: `eprint!` and
+// `write_all` take `rt.stderr()`, a handle by itself, which each function on the way to `finish` would be handed besides the handle that is read by.
 #![tactic(auto)]
 
 ghost use Rattle.std.specs.Prelude.{◌≡◌, List};
@@ -31,6 +33,7 @@ pub struct Piece {
     pub next: Next,
 }
 
+// Kept as it is: no `From`, since `Next` is not the count in another form: it is what the rules make of 0, of more, and of a call that failed.
 #[tactic(auto, unfolding(crate::specs::Calls::next_of))]
 fn next_of(got: Option<usize>) -> Next
     ensures { result ≡ next_of got }

@@ -1,16 +1,17 @@
--- Searches over the nodes: the definitions, as the library's words for chains have them.
+-- Searches over the nodes and the numbers of members: the definitions, as the code's loops and the library's words for chains have them.
 use mathlib.Core.Path.{◌≡◌, refl, sym, ◌∙◌}
 use mathlib.Core.Bool.{Bool, true, false, cond, not}
 use mathlib.Core.List.{List, [], ◌∷◌}
 use Prim.Native.Nat.{ℕ, suc, ◌+◌, ◌<◌, ◌≤◌}
 use native.Mathlib.Decide.{dec_lt}
-use native.Mathlib.Nat.{zero-add}
+use native.Mathlib.Numerals.{add-one}
 use native.Mathlib.Omega.{arith}
-use borrow.Author.Tests.{lt-ltb, le-ltb}
+use borrow.Author.Tests.{lt-ltb, le-ltb, eq-eqb, ne_eqb}
 use lib.Dec.{eqb, ltb}
-use lib.ListN.{length}
-use Rattle.std.specs.Prelude.{count_by, position, Option, Some, None}
-use Rattle.std.specs.List.{fold, position_or_len}
+use lib.ListN.{length, get_or, drop, drop_of_length-le}
+use lib.Seq.{drop-cons}
+use Rattle.std.specs.Prelude.{position, Option, Some, None}
+use Rattle.std.specs.List.{position_or_len}
 use Rattle.map_state.specs.MapState.{lowest, count}
 
 lowest_len : (g : ℕ) (part : List ℕ) → position_or_len (λ p. eqb p g) part ≡ lowest g part
@@ -37,13 +38,32 @@ not_found g part e f = go (dec_lt (lowest g part) (length part)) (sym f ∙ e �
   go (yes h) q = let r : None ≡ Some (lowest g part) = rw (lt-ltb _ _ h) at q in cc
   go (no h) q = omega arith
 
-count_folded : (g k : ℕ) (part : List ℕ) → fold (λ a x. a + cond (eqb x g) 1 0) k part ≡ k + count g part
+-- ---- the number of members, counted node by node: k so far, and those from v on
+count_on : (g : ℕ) (part : List ℕ) (v : ℕ) → v < length part → count g (drop v part) ≡ cond (eqb (get_or part v 0) g) (suc (count g (drop (v + 1) part))) (count g (drop (v + 1) part))
 unfolding count
-count_folded g k [] = omega arith
-count_folded g k (x ∷ xs) = count_folded g (k + cond (eqb x g) 1 0) xs ∙ go (eqb x g) where
-  go : (b : Bool) → k + cond b 1 0 + count g xs ≡ k + cond b (suc (count g xs)) (count g xs)
-  go true = omega arith
-  go false = omega arith
+count_on g part v h = rw (drop-cons part v 0 h, add-one v) refl
 
-pub count_is : (g : ℕ) (part : List ℕ) {r : ℕ} → r ≡ count_by (λ p. eqb p g) part → r ≡ count g part
-count_is g part e = e ∙ count_folded g 0 part ∙ zero-add (count g part)
+pub count_yes : (g k : ℕ) (part : List ℕ) (v : ℕ) → k + count g (drop v part) ≡ count g part → v < length part → get_or part v 0 ≡ g → k + 1 + count g (drop (v + 1) part) ≡ count g part
+count_yes g k part v e h t =
+    let o : count g (drop v part) ≡ suc (count g (drop (v + 1) part)) = rw (eq-eqb _ _ t) at (count_on g part v h) in
+    omega (arith, o, e)
+
+pub count_no : (g k : ℕ) (part : List ℕ) (v : ℕ) → k + count g (drop v part) ≡ count g part → v < length part → (get_or part v 0 ≡ g → ⊥) → k + count g (drop (v + 1) part) ≡ count g part
+count_no g k part v e h t =
+    let o : count g (drop v part) ≡ count g (drop (v + 1) part) = rw (ne_eqb _ _ t) at (count_on g part v h) in
+    omega (arith, o, e)
+
+pub count_end : (g k : ℕ) (part : List ℕ) (v : ℕ) → k + count g (drop v part) ≡ count g part → length part ≤ v → k ≡ count g part
+unfolding count
+count_end g k part v e h = let o : k + 0 ≡ count g part = rw (drop_of_length-le part {i = v} h) at e in omega arith
+
+count_few : (g : ℕ) (part : List ℕ) → count g part ≤ length part
+unfolding count
+count_few g [] = omega arith
+count_few g (x ∷ xs) = go (eqb x g) (count_few g xs) where
+  go : (b : Bool) → count g xs ≤ length xs → cond b (suc (count g xs)) (count g xs) ≤ suc (length xs)
+  go true h = omega arith
+  go false h = omega arith
+
+pub count_room : (g k : ℕ) (part : List ℕ) (v : ℕ) → k + count g (drop v part) ≡ count g part → k ≤ length part
+count_room g k part v e = omega (arith, e, count_few g part)

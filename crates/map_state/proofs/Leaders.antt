@@ -4,18 +4,22 @@ use mathlib.Core.Bool.{Bool, true, false, cond}
 use mathlib.Core.List.{List, [], ◌∷◌}
 use mathlib.Core.Logic.{◌≢◌}
 use Prim.Native.Nat.{ℕ, zero, suc, ◌+◌, ◌-◌, ◌<◌, ◌≤◌}
+use native.Mathlib.Nat.{sub-zero}
 use native.Mathlib.Numerals.{add-one}
 use native.Mathlib.Omega.{arith}
 use borrow.Author.Tests.{eq-eqb, ne_eqb, eqb-true, eqb-false}
 use lib.Dec.{eqb}
 use lib.ListN.{length, get_or, set, take, length-set, get_or-eq_default}
-use lib.Seq.{get_or-set_same, get_or-set_other}
+use lib.Seq.{get_or-set_same, get_or-set_other, set_out, take-set-lt, length-take-le}
 use Rattle.std.proofs.lemmas.List.{get_or-take}
 use lib.Ieee.{Float, nan}
 use Rattle.float.specs.Binary64.{add64, div64, zero64}
+use Rattle.lists.proofs.Maps.{get_or_inside}
+use Rattle.std.specs.Prelude.{position, Option, Some, None}
+use Rattle.map_state.proofs.Chains.{found, not_found}
 use Rattle.map_state.specs.Network.{Network}
 use Rattle.map_state.specs.MapState.{MapState, moved_by, apply_move, store_at, lowest, count, leads, sum_q_from, sum_q, stats_of, stats_at}
-use Rattle.map_state.specs.Steps.{Firsts, Renewed}
+use Rattle.map_state.specs.Steps.{Firsts, Renewed, StoredAt, Summed}
 use Rattle.map_state.specs.declared.ModuleStats.{ModuleStats}
 use Rattle.map_state.specs.declared.Moved.{Moved}
 
@@ -91,6 +95,20 @@ module _ (part first first' : List ℕ) (u h : ℕ) (long : u < length part) (be
 pub none_renewed : (part first : List ℕ) (x a : ℕ) → length part ≤ lowest x part → Renewed part first first x a
 none_renewed part first x a h v p = rw (ne_eqb (get_or part v 0) x (λ e. let o = lowest_of part v p in let q : lowest x part ≤ v = rw e at o in omega arith))
 
+-- A group's sums are stored at the lowest member that a search finds, and its number is given to the members; where it finds none there is nothing to do.
+module _ (part : List ℕ) (g : ℕ) {o : Option ℕ} (e : o ≡ position (λ p. eqb p g) part) where
+  pub stored_some : (xs : List Float) (x : Float) {a : ℕ} → o ≡ Some a → StoredAt part xs (set xs a x) g x
+  stored_some xs x {a} s = let f = found g part e s in rw (← f.0) (take-set-lt (length part) xs a x f.1)
+
+  pub stored_none : (xs : List Float) (x : Float) → o ≡ None → length part ≤ length xs → StoredAt part xs xs g x
+  stored_none xs x s h = let n = not_found g part e s in let l = length-take-le (length part) xs h in sym (set_out _ _ _ (omega arith))
+
+  pub renewed_some : (first after : List ℕ) {a : ℕ} → o ≡ Some a → Renewed part first after g a → Renewed part first after g (lowest g part)
+  renewed_some first after s r = rw (← (found g part e s).0) r
+
+  pub renewed_none : (first : List ℕ) → o ≡ None → Renewed part first first g (lowest g part)
+  renewed_none first s = none_renewed part first g _ (not_found g part e s)
+
 -- the steps of a move, together
 pub apply_move_is : (n : Network) (s : MapState) (u h : ℕ) {m : Moved} {e1 e2 s1 s2 : List Float} {r : Float} → let part = set s.partition u h in let g = get_or s.partition u 0 in
     m ≡ moved_by n s u h → e1 ≡ store_at part s.exits g m.src.exit → e2 ≡ store_at part e1 h m.dest.exit → s1 ≡ store_at part s.strengths g m.src.strength → s2 ≡ store_at part s1 h m.dest.strength
@@ -114,7 +132,11 @@ pub q_no : (d : Float) (part first : List ℕ) (exit : List Float) (a : Float) (
     → sum_q_from d part exit a (v + 1) (length part - (v + 1)) ≡ z
 q_no d part first exit a v e k h t = q_on d part first exit a _ v k h (rw (ne_eqb _ _ t)) ∙ e
 
-pub q_end : (d : Float) (part : List ℕ) (exit : List Float) (a : Float) (v : ℕ) {z : Float} → sum_q_from d part exit a v (length part - v) ≡ z → length part ≤ v → a ≡ z
+pub q_start : (d : Float) (part : List ℕ) (exit : List Float) → sum_q_from d part exit zero64 0 (length part - 0) ≡ sum_q d part exit
+unfolding sum_q
+q_start d part exit = rw sub-zero
+
+pub q_end : (d : Float) (part : List ℕ) (exit : List Float) (a : Float) (v : ℕ) → sum_q_from d part exit a v (length part - v) ≡ sum_q d part exit → length part ≤ v → a ≡ sum_q d part exit
 unfolding sum_q_from
 q_end d part exit a v e h =
     let o : length part - v ≡ 0 = omega arith in
@@ -129,6 +151,13 @@ pub count_none : (g : ℕ) (part : List ℕ) → length part ≤ lowest g part �
 unfolding lowest count
 count_none g [] h = refl
 count_none g (x ∷ xs) h = none1 (eqb x g) (lowest g xs) (count g xs) (length xs) (count_none g xs) h
+
+-- a group's sums stand at its lowest member
+pub stats_stand : (part : List ℕ) (exit strengths : List Float) (g slot : ℕ) {k : ℕ} → Summed part exit strengths → slot < length part → slot ≡ lowest g part → k ≡ count g part
+    → ◌≡◌ {A = ModuleStats} (record { exit = get_or exit slot nan; strength = get_or strengths slot nan; n_nodes = k }) (stats_at part exit strengths g)
+unfolding stats_at
+stats_stand part exit strengths g slot s h e p =
+    rw (p, ← e, get_or_inside exit slot nan zero64 (omega arith), get_or_inside strengths slot nan zero64 (omega arith))
 
 -- the module of an empty group
 pub stats_none : (part : List ℕ) (exit strengths : List Float) (g : ℕ) → length exit ≡ length part → length strengths ≡ length part → length part ≤ lowest g part

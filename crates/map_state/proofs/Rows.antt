@@ -50,9 +50,9 @@ weights_yes a row v e h t = weights_on a _ row v h (rw t) ∙ e
 pub weights_no : (a : Float) (row : List Float) (v : ℕ) {z : Float} → add_weights a (drop v row) ≡ z → v < length row → lt zero64 (get_or row v nan) ≡ false → add_weights a (drop (v + 1) row) ≡ z
 weights_no a row v e h t = weights_on a _ row v h (rw t) ∙ e
 
-pub weights_end : (a : Float) (row : List Float) (v : ℕ) {z : Float} → add_weights a (drop v row) ≡ z → length row ≤ v → a ≡ z
+pub weights_end : (start a : Float) (row : List Float) (v : ℕ) → add_weights a (drop v row) ≡ add_weights start row → length row ≤ v → a ≡ add_weights start row
 unfolding add_weights
-weights_end a row v e h = rw (drop_of_length-le row {i = v} h) at e
+weights_end start a row v e h = rw (drop_of_length-le row {i = v} h) at e
 
 -- ---- the strengths
 module _ (t : List Float) (m n : ℕ) where
@@ -69,32 +69,33 @@ module _ (t : List Float) (m n : ℕ) where
       let e : u + suc j ≡ suc u + j = omega arith in
       rw e (get_or_from (suc u) k j (omega arith))
 
-  pub is_strengths : (l : List Float) → length l ≡ n → ((k : ℕ) → k < n → get_or l k nan ≡ add_weights zero64 (row_at t m n k)) → l ≡ strengths_of t m n
-  is_strengths l e f =
+  pub is_strengths : (l : List Float) (u : ℕ) → length l ≡ n → ((k : ℕ) → k < u → get_or l k nan ≡ add_weights zero64 (row_at t m n k)) → n ≤ u → l ≡ strengths_of t m n
+  is_strengths l u e f r =
       ext_get_or nan l (strengths_of t m n) (e ∙ sym (length_from 0 n))
-      (λ k h. let i : k < n = omega arith in let z : 0 + k ≡ k = omega arith in f k i ∙ sym (rw z at (get_or_from 0 n k i)))
+      (λ k h. let i : k < n = omega arith in let z : 0 + k ≡ k = omega arith in f k (omega arith) ∙ sym (rw z at (get_or_from 0 n k i)))
 
   pub length_strengths : length (strengths_of t m n) ≡ n
   length_strengths = length_from 0 n
 
   -- ---- the total weight
-  pub total_on : (a a' : Float) (u : ℕ) {ws : List Float} → u < n → ws ≡ drop (suc u) (row_at t m n u) → a' ≡ add_weights a ws → total_from t m n a' (u + 1) (n - (u + 1)) ≡ total_from t m n a u (n - u)
+  pub total_on : (a a' : Float) (u : ℕ) → total_from t m n a u (n - u) ≡ total_weight t m n → u < n → a' ≡ add_weights a (take (u * m + n - (u * m + u + 1)) (drop (u * m + u + 1) t))
+      → total_from t m n a' (u + 1) (n - (u + 1)) ≡ total_weight t m n
   unfolding total_from
-  total_on a a' u h p e =
+  total_on a a' u f h e =
       let o : n - u ≡ suc (n - (u + 1)) = omega arith in
-      rw (o, e, p, add-one u)
+      rw (e, row_above t m n u h, add-one u) (rw (o, add-one u) at f)
 
-  pub total_end : (a : Float) (u : ℕ) → n ≤ u → a ≡ total_from t m n a u (n - u)
+  pub total_end : (a : Float) (u : ℕ) → total_from t m n a u (n - u) ≡ total_weight t m n → n ≤ u → a ≡ total_weight t m n
   unfolding total_from
-  total_end a u h =
+  total_end a u f h =
       let o : n - u ≡ 0 = omega arith in
-      rw o
+      rw o at f
 
   -- ---- the network, from the strengths in the first n places of an array
-  pub network_is : (k : ℕ) (s rest : List Float) {w : Float} → k ≡ n → length s ≡ k → s ≡ strengths_of t m k → w ≡ total_weight t m n
+  pub network_is : (s rest : List Float) {w : Float} → length s ≡ n → s ≡ strengths_of t m n → w ≡ total_weight t m n
       → ◌≡◌ {A = Network} (record { table = t; stride = m; strength = take n (s ++ rest); d = mul64 two64 w }) (network t m n)
   unfolding network
-  network_is k s rest p l e q = rw (take_at s rest n (l ∙ p), q, ← p) (rw (← e))
+  network_is s rest l e q = rw (take_at s rest n l, q) (rw (← e))
 
   pub length_network : length (network t m n).strength ≡ n
   unfolding network

@@ -12,6 +12,23 @@ use std::marker::Model;
 mod state;
 mod table;
 
+// The weights between n nodes, a row of each at a stride.
+#[derive(Clone, Copy, Debug, PartialEq)]
+pub struct WeightTable<'a> {
+    pub weights: &'a [f64],
+    pub stride: usize,
+    pub n: usize,
+    pub ghost rows: { Rows weights.now stride n },
+}
+
+// The weights between a node and each node, beside the groups of the nodes.
+#[derive(Clone, Copy, Debug, PartialEq)]
+pub struct Row<'a> {
+    pub weights: &'a [f64],
+    pub partition: &'a [u32],
+    pub ghost even: { length weights.now ≡ length partition.now },
+}
+
 // The weights from a node into its own group, into another, and elsewhere.
 #[derive(Clone, Copy, Debug, PartialEq)]
 pub struct Links {
@@ -26,6 +43,15 @@ pub struct ModuleStats {
     pub exit: f64,
     pub strength: f64,
     pub n_nodes: u32,
+}
+
+// The two groups of a move before it: the one that the node leaves, and the one that it joins.
+#[derive(Clone, Copy, Debug, PartialEq)]
+pub struct ModulePair {
+    pub src: ModuleStats,
+    pub dest: ModuleStats,
+    pub ghost some: { 0 < src.n_nodes },
+    pub ghost few: { dest.n_nodes ≤ 512 },
 }
 
 // The two groups after a move, and the sum of the changes of their exit weights.
@@ -50,34 +76,32 @@ fn add_weights(row: &[f64], start: f64) -> f64
     a
 }
 
-// Writes the strengths of the nodes, as many as the slice is long.
-// Kept as it is: table and stride side by side, here and in `total_weight`, since a `Network` is not made before its strengths and D are.
+// Writes the strengths of the nodes.
 #[tactic(auto, using(crate::proofs::Rows::row_inside))]
-pub fn sum_strengths(table: &[f64], stride: usize, strength: &mut [f64])
-    requires { Rows table.now stride (length strength.old) }
-    ensures { strength.new ≡ strengths_of table.now stride (length strength.old) }
+pub fn sum_strengths(table: WeightTable, strength: &mut [f64])
+    requires { length strength.old ≡ table.n }
+    ensures { strength.new ≡ strengths_of table.entry.weights.now table.entry.stride table.entry.n }
 {
-    let n = strength.len();
-    for u in 0..n {
-        let a = u * stride;
-        strength[u] = add_weights(&table[a..a + n], 0.0);
+    for (u, s) in strength.iter_mut().enumerate() {
+        let a = u * table.stride;
+        *s = add_weights(&table.weights[a..a + table.n], 0.0);
     }
 }
 
-// The total weight of n nodes' links, each counted once.
-#[tactic(auto, using(crate::proofs::Rows::row_inside))]
-pub fn total_weight(table: &[f64], stride: usize, n: usize) -> f64
-    requires { Rows table.now stride n }
-    ensures { result ≡ total_weight table.now stride n }
+// The total weight of the nodes' links, each counted once.
+#[tactic(auto, using(crate::proofs::Rows::row_inside, crate::proofs::Rows::row_above, crate::proofs::Rows::total_on, crate::proofs::Rows::total_end))]
+pub fn total_weight(table: WeightTable) -> f64
+    ensures { result ≡ total_weight table.entry.weights.now table.entry.stride table.entry.n }
 {
     let mut t = 0.0;
-    for u in 0..n {
-        let a = u * stride;
-        t = add_weights(&table[a + u + 1..a + n], t);
+    for u in 0..table.n {
+        let a = u * table.stride;
+        t = add_weights(&table.weights[a + u + 1..a + table.n], t);
     }
     t
 }
 
+// Kept as it is: the two groups' numbers g and h side by side, here and in three functions more: a struct of them would be taken apart in each.
 #[tactic(auto, unfolding(crate::specs::MapState::add_link))]
 fn add_link(l: Links, g: u32, h: u32, p: u32, w: f64) -> Links
     ensures { result ≡ add_link g h l p w }
@@ -104,18 +128,20 @@ fn add_link(l: Links, g: u32, h: u32, p: u32, w: f64) -> Links
     }
 }
 
-#[tactic(auto, using(crate::proofs::Loops::link_on, crate::proofs::Loops::link_end))]
-fn link_weights(partition: &[u32], row: &[f64], g: u32, h: u32) -> Links
-    requires { length row.now ≡ length partition.now }
-    ensures { result ≡ link_weights g h partition.now row.now }
+// What each link of a row adds up to.
+// Kept as it is: an index for the weights, here and where a row is read in codelength and scan. A `zip` of the two columns takes more instructions:
+// the change of codelength, of which this loop is the most, 44.8 million in six groupings of 64 nodes with all links, and 39.7 with the index.
+// The bar: the grouping must not be slower than before these forms.
+fn link_weights(row: Row, g: u32, h: u32) -> Links
+    ensures { result ≡ link_weights g h row.entry.partition.now row.entry.weights.now }
 {
     let mut l = Links {
         src: 0.0,
         dest: 0.0,
         other: 0.0,
     };
-    for v in 0..partition.len() {
-        l = add_link(l, g, h, partition[v], row[v]);
+    for (v, &p) in row.partition.iter().enumerate() {
+        l = add_link(l, g, h, p, row.weights[v]);
     }
     l
 }
@@ -128,19 +154,26 @@ pub fn lowest(partition: &[u32], g: u32) -> Option<usize>
 }
 
 // The number of a group's members.
-#[tactic(auto, using(crate::proofs::Chains::count_is))]
+// Kept as it is: counted by hand. `filter` and `count` take 16.6 million instructions in six groupings of 64 nodes with all links, and this loop 2.7,
+// since several nodes are compared at once. The bar: the grouping must not be slower than before these forms.
 fn members(partition: &[u32], g: u32) -> u32
     requires { length partition.now ≤ 512 }
     ensures { result ≡ count g partition.now }
 {
-    partition.iter().filter(|p| **p == g).count() as u32
+    let mut k = 0;
+    for &p in partition {
+        if p == g {
+            k += 1;
+        }
+    }
+    k
 }
 
 #[tactic(auto, unfolding(crate::specs::MapState::after_move))]
-fn after_move(l: Links, s: f64, src: ModuleStats, dest: ModuleStats) -> Moved
-    requires { (0 < src.n_nodes) × (dest.n_nodes ≤ 512) }
-    ensures { result ≡ after_move l s src dest }
+fn after_move(l: Links, s: f64, pair: ModulePair) -> Moved
+    ensures { result ≡ after_move l s pair.src pair.dest }
 {
+    let ModulePair { src, dest } = pair;
     let x = -l.dest - l.other + l.src;
     let y = l.src + l.other - l.dest;
     Moved {
@@ -171,54 +204,35 @@ fn module_terms(d: f64, m: ModuleStats) -> f64
 }
 
 #[tactic(auto, unfolding(crate::specs::MapState::module_pair_delta))]
-fn module_pair_delta_l(d: f64, q: f64, src: ModuleStats, dest: ModuleStats, m: Moved) -> f64
-    ensures { result ≡ module_pair_delta d q src dest m }
+fn module_pair_delta(d: f64, q: f64, pair: ModulePair, m: Moved) -> f64
+    ensures { result ≡ module_pair_delta d q pair.src pair.dest m }
 {
-    let before = float::plogp(q) + module_terms(d, src) + module_terms(d, dest);
+    let before = float::plogp(q) + module_terms(d, pair.src) + module_terms(d, pair.dest);
     let after = float::plogp(q + m.delta_exit / d)
         + module_terms(d, m.src)
         + module_terms(d, m.dest);
     after - before
 }
 
-// What the move of a node from group g to h makes of the two groups, `src` and `dest` before it. `row` holds the node's weights and
-// `s` is its strength.
-fn move_of(
-    row: &[f64],
-    s: f64,
-    partition: &[u32],
-    g: u32,
-    h: u32,
-    src: ModuleStats,
-    dest: ModuleStats,
-) -> Moved
-    requires { (length row.now ≡ length partition.now) × (0 < src.n_nodes) × (dest.n_nodes ≤ 512) }
-    ensures { result ≡ after_move (link_weights g h partition.now row.now) s src dest }
+// What the move of a node from group g to h makes of the two groups. `row` holds the node's weights and `s` is its strength.
+fn move_of(row: Row, s: f64, g: u32, h: u32, pair: ModulePair) -> Moved
+    ensures { result ≡ after_move (link_weights g h row.entry.partition.now row.entry.weights.now) s pair.src pair.dest }
 {
-    after_move(link_weights(partition, row, g, h), s, src, dest)
+    after_move(link_weights(row, g, h), s, pair)
 }
 
 // The change of codelength by such a move. `d` is D and `q` is Q.
-// Kept as it is: the row, the strength and D side by side, since a caller may have them without the other rows of a `Network`.
-pub fn delta_move(
-    row: &[f64],
-    s: f64,
-    d: f64,
-    partition: &[u32],
-    q: f64,
-    g: u32,
-    h: u32,
-    src: ModuleStats,
-    dest: ModuleStats,
-) -> f64
-    requires { (length row.now ≡ length partition.now) × (0 < src.n_nodes) × (dest.n_nodes ≤ 512) }
-    ensures { result ≡ module_pair_delta d q src dest (after_move (link_weights g h partition.now row.now) s src dest) }
+// Kept as it is: the row, the strength and D side by side. A `Network` and a `MapState` would ask for more than this needs: other rows, and the lowest
+// members of the groups; the method of this name serves who has both.
+pub fn delta_move(row: Row, s: f64, d: f64, q: f64, g: u32, h: u32, pair: ModulePair) -> f64
+    ensures { result ≡ module_pair_delta d q pair.src pair.dest (after_move (link_weights g h row.entry.partition.now row.entry.weights.now) s pair.src pair.dest) }
 {
-    let m = move_of(row, s, partition, g, h, src, dest);
-    module_pair_delta_l(d, q, src, dest, m)
+    let m = move_of(row, s, g, h, pair);
+    module_pair_delta(d, q, pair, m)
 }
 
 // A group's sums, from the place where they stand.
+#[tactic(auto, using(crate::proofs::Leaders::stats_stand))]
 fn stats_at(partition: &[u32], exits: &[f64], strengths: &[f64], slot: usize, g: u32) -> ModuleStats
     requires { (Summed partition.now exits.now strengths.now) × (slot < length partition.now) × (slot ≡ lowest g partition.now) }
     ensures { result ≡ stats_at partition.now exits.now strengths.now g }
@@ -233,6 +247,7 @@ fn stats_at(partition: &[u32], exits: &[f64], strengths: &[f64], slot: usize, g:
 // A group's sums, wherever they stand; an empty group's are 0.
 // Kept as it is: slices side by side, here and in `sum_q`, since a caller may have some that no `MapState` holds: without the lowest
 // members, or longer. Asking for one would ask for more; the methods of these names serve who has one.
+#[tactic(auto, using(crate::proofs::Chains::found, crate::proofs::Chains::not_found, crate::proofs::Leaders::stats_none))]
 pub fn find_stats(partition: &[u32], exits: &[f64], strengths: &[f64], g: u32) -> ModuleStats
     requires { Summed partition.now exits.now strengths.now }
     ensures { result ≡ stats_at partition.now exits.now strengths.now g }
@@ -248,14 +263,14 @@ pub fn find_stats(partition: &[u32], exits: &[f64], strengths: &[f64], g: u32) -
 }
 
 // Q, by lowest member.
-#[tactic(auto, using(crate::proofs::Leaders::q_yes, crate::proofs::Leaders::q_no))]
+#[tactic(auto, using(crate::proofs::Leaders::q_start, crate::proofs::Leaders::q_yes, crate::proofs::Leaders::q_no, crate::proofs::Leaders::q_end))]
 pub fn sum_q(partition: &[u32], first: &[u32], exits: &[f64], d: f64) -> f64
     requires { (length first.now ≡ length partition.now) × (length exits.now ≡ length partition.now) × Firsts partition.now first.now }
     ensures { result ≡ sum_q d partition.now exits.now }
 {
     let mut a = 0.0;
-    for v in 0..first.len() {
-        if first[v] as usize == v {
+    for (v, &f) in first.iter().enumerate() {
+        if f as usize == v {
             a += exits[v] / d;
         }
     }
@@ -267,8 +282,8 @@ fn renew_first(partition: &[u32], first: &mut [u32], g: u32, a: u32)
     requires { length partition.now ≤ length first.old }
     ensures { Renewed partition.now first.old first.new g a }
 {
-    for v in 0..partition.len() {
-        if partition[v] == g {
+    for (v, &p) in partition.iter().enumerate() {
+        if p == g {
             first[v] = a;
         }
     }
@@ -277,6 +292,7 @@ fn renew_first(partition: &[u32], first: &mut [u32], g: u32, a: u32)
 // Stores a group's sums at its lowest member, and gives it to the members; an empty group's are forgotten.
 // Kept as it is: a function over the arrays. A method would be called on a state whose `first` holds the lowest members, which is what the
 // model promises; between the two groups of a move it does not, so a method would need a second struct, without that promise, for it alone.
+#[tactic(auto, using(crate::proofs::Leaders::stored_some, crate::proofs::Leaders::stored_none, crate::proofs::Leaders::renewed_some, crate::proofs::Leaders::renewed_none))]
 fn store_group(
     partition: &[u32],
     first: &mut [u32],
@@ -322,10 +338,23 @@ impl<'a> Model for Network<'a> {
 
 // What the run carries, one element a node: `partition`, the internal number of the node's group; `first`, the lowest member of that
 // group; `exits` and `strengths`, a group's sums, at its lowest member. `q` is Q.
+// Kept as it is: a state stands beside its network, and the clauses of eighteen functions say by `Fits` that it has the network's nodes: `row`,
+// `delta_move`, `moved_by`, `apply_move`; of codelength `exit_of`, `add_node`, `sum_modules`, `from_partition`, `map_equation`; of scan `consider`,
+// `scan_node`, `isolate`; of optimize `ask`, `act`, `pass`, `round`, `run_rounds`; of infomap `keep`. A struct that lends the two would know it, but each
+// contract of a function that writes would have to say that the network is the same afterwards. `apply_move` says
+//     requires { AtNode net.now self.old u }
+//     ensures { self.new ≡ apply_move net.now self.old u h }
+// and would say
+//     requires { u < length self.old.state.partition }
+//     ensures { self.new ≡ record { net = self.old.net; state = apply_move self.old.net self.old.state u h } }
+// Eight of the functions only read (`row`, `delta_move`, `moved_by`, `exit_of`, `consider`, `scan_node`, `isolate`, `ask`). A value that lends network,
+// state and node would serve them, but the functions that write the state, which call three of them (`moved_by`, `exit_of`, `ask`), could not make it:
+// tried with `Row`, and the borrow check takes no value of several lifetimes there.
 // Kept as it is: no equality is derived of it, nor of `Network`, since a model that does not give the fields back has none; and it has arrays
-// side by side. One array of a struct a node would be no plainer: eleven functions and a copy take the partition alone
-// as a slice of numbers (`lowest`, `members`, `link_weights`, `highest` of scan, the grouping that infomap keeps), and each would need a
-// loop that takes the groups out first; `fill` clears the sums alone. The arrays are of fixed size since the project takes no heap.
+// side by side. One array of a struct a node would be no plainer: ten functions and a copy take the partition as a slice of numbers (`lowest`,
+// `members`, `stats_at`, `find_stats`, `sum_q`, `renew_first`, `store_group`; of scan `highest` and `next_free_module`; of infomap `relabel_dense`, and
+// the copy of the grouping that it keeps). For a state each would need a loop that takes the groups out first; `exits` and `strengths` lend the
+// two sums as slices too, which an array of pairs could not. The arrays are of fixed size since the project takes no heap.
 #[derive(Drop)]
 pub struct MapState {
     pub n: usize,

@@ -1,10 +1,12 @@
 // What a run carries: its columns, the groups' sums, the change of codelength by a move, and the move.
-ghost use Rattle.std.specs.Prelude.{◌≡◌, ◌<◌, length, get_or};
-ghost use Rattle.map_state.specs.MapState.{stats_of, sum_q, delta_move, apply_move};
+ghost use Rattle.std.specs.Prelude.{◌≡◌, ◌<◌, ◌≤◌, length, get_or};
+ghost use Rattle.map_state.specs.Network.{row};
+ghost use Rattle.map_state.specs.MapState.{stats_of, sum_q, moved_by, delta_move, apply_move};
 ghost use Rattle.map_state.specs.Steps.{Firsts, Even, AtNode, MoveSums};
 
 use crate::{
-    MapState, ModuleStats, Network, delta_move, find_stats, move_of, stats_at, store_group, sum_q,
+    MapState, ModulePair, ModuleStats, Moved, Network, Row, delta_move, find_stats, move_of,
+    stats_at, store_group, sum_q,
 };
 
 impl MapState {
@@ -17,7 +19,7 @@ impl MapState {
 
     // The lowest member of each node's group.
     pub fn first(&self) -> &[u32]
-        ensures { (length result.now ≡ length self.now.partition) × Firsts self.now.partition result.now }
+        ensures { (length result.now ≡ length self.now.partition) × (Firsts self.now.partition result.now) × (length result.now ≤ 512) }
     {
         &self.first[..self.n]
     }
@@ -34,6 +36,17 @@ impl MapState {
         ensures { (result.now ≡ self.now.strengths) × (length result.now ≡ length self.now.partition) }
     {
         &self.strengths[..self.n]
+    }
+
+    // The row of node u beside the groups.
+    pub fn row<'a>(&'a self, net: &'a Network, u: usize) -> Row<'a>
+        requires { AtNode net.now self.now u }
+        ensures { (result.weights.now ≡ row net.now u) × (result.partition.now ≡ self.now.partition) }
+    {
+        Row {
+            weights: net.row(u),
+            partition: self.partition(),
+        }
     }
 
     // The sums of a node's own group.
@@ -67,6 +80,8 @@ impl MapState {
     }
 
     // The change of codelength if u moves to h; its group is `src` and h is `dest` before it.
+    // Kept as it is: the two groups' sums side by side. What a `ModulePair` asks follows from the clause here; whoever calls would have to show it.
+    #[tactic(auto, using(crate::proofs::Leaders::stats_some, crate::proofs::Leaders::stats_few), unfolding(crate::specs::MapState::delta_move, crate::specs::MapState::delta_from, crate::specs::MapState::moved_from))]
     pub fn delta_move(
         &self,
         net: &Network,
@@ -78,18 +93,23 @@ impl MapState {
         requires { (AtNode net.now self.now u) × (MoveSums self.now u h src dest) }
         ensures { result ≡ delta_move net.now self.now u h }
     {
-        let partition = self.partition();
-        delta_move(
-            net.row(u),
-            net.strength()[u],
-            net.d(),
-            partition,
-            self.q,
-            partition[u],
-            h,
-            src,
-            dest,
-        )
+        let row = self.row(net, u);
+        let s = net.strength()[u];
+        let g = row.partition[u];
+        delta_move(row, s, net.d(), self.q, g, h, ModulePair { src, dest })
+    }
+
+    // What the move of u to h makes of the two groups.
+    #[tactic(auto, using(crate::proofs::Leaders::stats_some, crate::proofs::Leaders::stats_few), unfolding(crate::specs::MapState::moved_from))]
+    fn moved_by(&self, net: &Network, u: usize, h: u32) -> Moved
+        requires { AtNode net.now self.now u }
+        ensures { result ≡ moved_by net.now self.now u h }
+    {
+        let row = self.row(net, u);
+        let src = self.own_stats(u);
+        let dest = self.find_stats(h);
+        let pair = ModulePair { src, dest };
+        move_of(row, net.strength()[u], row.partition[u], h, pair)
     }
 
     // Moves u to h, another group, and makes Q anew.
@@ -98,17 +118,7 @@ impl MapState {
         ensures { self.new ≡ apply_move net.now self.old u h }
     {
         let g = self.partition()[u];
-        let src = self.own_stats(u);
-        let dest = self.find_stats(h);
-        let mv = move_of(
-            net.row(u),
-            net.strength()[u],
-            self.partition(),
-            g,
-            h,
-            src,
-            dest,
-        );
+        let mv = self.moved_by(net, u, h);
         self.partition[u] = h;
         let partition = &self.partition[..self.n];
         store_group(

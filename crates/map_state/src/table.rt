@@ -1,29 +1,30 @@
 // The network: made from a table or from its parts, and read.
+// Kept as it is: an array of fixed size, of which a part is lent, since the project takes no heap (docs/DECISIONS.md, "No heap").
 ghost use Rattle.std.specs.Prelude.{◌≡◌, ◌<◌, ◌≤◌, length};
 ghost use Rattle.map_state.specs.Network.{row, network};
-ghost use Rattle.map_state.specs.Steps.{net_of, Rows, EachRow};
+ghost use Rattle.map_state.specs.Steps.{net_of, EachRow};
 
-use crate::{Network, sum_strengths, total_weight};
+use crate::{Network, WeightTable, sum_strengths, total_weight};
 
 impl<'a> Network<'a> {
-    // The network of n nodes whose weights stand in the table.
-    pub fn new(table: &'a [f64], stride: usize, n: usize) -> Self
-        requires { Rows table.now stride n }
-        ensures { result ≡ network table.now stride n }
+    // The network of the nodes whose weights stand in the table.
+    pub fn new(table: WeightTable<'a>) -> Self
+        ensures { result ≡ network table.entry.weights.now table.entry.stride table.entry.n }
     {
         let mut strength = [0.0; 512];
-        sum_strengths(table, stride, &mut strength[..n]);
-        let d = 2.0 * total_weight(table, stride, n);
+        sum_strengths(table, &mut strength[..table.n]);
+        let d = 2.0 * total_weight(table);
         Network {
-            table,
-            stride,
-            n,
+            table: table.weights,
+            stride: table.stride,
+            n: table.n,
             strength,
             d,
         }
     }
 
     // The network of these strengths and this D, whatever they are.
+    // Kept as it is: table and stride side by side, since this asks less of them than a `WeightTable`: rows may share numbers.
     pub fn from_parts(table: &'a [f64], stride: usize, strength: &[f64], d: f64) -> Self
         requires { EachRow table.now stride (length strength.now) }
         ensures { result ≡ net_of table.now stride strength.now d }

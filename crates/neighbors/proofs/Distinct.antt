@@ -4,37 +4,34 @@ use mathlib.Core.List.{List, [], ◌∷◌}
 use Prim.Native.Nat.{ℕ, suc, ◌+◌, ◌<◌, ◌≤◌}
 use native.Mathlib.Numerals.{add-one}
 use native.Mathlib.Omega.{arith}
-use lib.ListN.{length, get_or, drop, drop_of_length-le}
+use lib.ListN.{length, drop, drop_of_length-le}
 use lib.Seq.{drop-cons}
-use lib.Ieee.{Float, nan}
+use lib.Ieee.{Float}
 use Rattle.lists.specs.Lists.{overlay}
 use Rattle.std.specs.Prelude.{Option, Some, None}
 use Rattle.distance.specs.declared.Point.{Point}
 use Rattle.neighbors.specs.Places.{Place, sighted, sighted_all, places, places_in, place_xs, place_ys}
-use Rattle.distance.specs.Distance.{points}
+use Rattle.distance.specs.Steps.{no_point, point_at}
 use Rattle.neighbors.specs.StepsPlaces.{stay_count, sighted_within, places_within, place_counts, front, Laid, OneMoreLaid, DistinctLaid}
 use Rattle.neighbors.proofs.Sighted.{longer, longer_all, counted_one}
 use Rattle.neighbors.proofs.Within.{within_on, within_stop, counted_within, counted_beyond, within_some, within_none}
 use Rattle.neighbors.proofs.Laid.{length_front, front_laid, laid_over, laid_as}
 
 -- n places of the first k medians stand in front, and behind them what was there.
-pub record Reached (mx my xs₀ ys₀ : List Float) (cs₀ : List ℕ) (xs ys : List Float) (cs : List ℕ) (n k : ℕ) : Type 0 where
-  pub rest : sighted_all (front xs ys cs n) (points (drop k mx) (drop k my)) ≡ places (points mx my)
-  pub within : sighted_within (length xs₀) (front xs ys cs n) (points (drop k mx) (drop k my)) ≡ places_within (length xs₀) (points mx my)
+pub record Reached (ms : List Point) (xs₀ ys₀ : List Float) (cs₀ : List ℕ) (xs ys : List Float) (cs : List ℕ) (n k : ℕ) : Type 0 where
+  pub rest : sighted_all (front xs ys cs n) (drop k ms) ≡ places ms
+  pub within : sighted_within (length xs₀) (front xs ys cs n) (drop k ms) ≡ places_within (length xs₀) ms
   pub laid : Laid (front xs ys cs n) xs₀ ys₀ cs₀ xs ys cs
   pub few : n ≤ length xs₀
   pub counted : stay_count (front xs ys cs n) ≡ k
 
-module _ (mx my xs₀ ys₀ : List Float) (cs₀ : List ℕ) where
-  pub distinct_start : Reached mx my xs₀ ys₀ cs₀ xs₀ ys₀ cs₀ 0 0
+module _ (ms : List Point) (xs₀ ys₀ : List Float) (cs₀ : List ℕ) where
+  pub distinct_start : Reached ms xs₀ ys₀ cs₀ xs₀ ys₀ cs₀ 0 0
   unfolding places places_within places_in stay_count overlay place_xs place_ys place_counts
   distinct_start = record { rest = refl; within = refl; laid = (refl, refl, refl); few = omega arith; counted = refl }
 
-  module _ (xs ys : List Float) (cs : List ℕ) (n k : ℕ) (at : Reached mx my xs₀ ys₀ cs₀ xs ys cs n k)
-      (h : k < length mx) (p : length my ≡ length mx) (l : length xs ≡ length xs₀) where
-    abbrev m : Point
-    m = record { x = get_or mx k nan; y = get_or my k nan }
-
+  module _ (xs ys : List Float) (cs : List ℕ) (n k : ℕ) (at : Reached ms xs₀ ys₀ cs₀ xs ys cs n k)
+      (h : k < length ms) {m : Point} (is : m ≡ point_at ms k) (l : length xs ≡ length xs₀) where
     abbrev before : List Place
     before = front xs ys cs n
 
@@ -42,17 +39,16 @@ module _ (mx my xs₀ ys₀ : List Float) (cs₀ : List ℕ) where
     next = sighted before m
 
     abbrev left : List Point
-    left = points (drop (k + 1) mx) (drop (k + 1) my)
+    left = drop (k + 1) ms
 
-    first : points (drop k mx) (drop k my) ≡ m ∷ left
-    unfolding points
-    first = rw (add-one k, drop-cons mx k nan h, drop-cons my k nan (omega arith))
+    first : drop k ms ≡ m ∷ left
+    first = rw (add-one k, is) (drop-cons ms k no_point h)
 
-    step : sighted_all next left ≡ places (points mx my)
+    step : sighted_all next left ≡ places ms
     unfolding sighted_all
     step = ap (sighted_all before) (sym first) ∙ at.rest
 
-    step_within : sighted_within (length xs₀) before (m ∷ left) ≡ places_within (length xs₀) (points mx my)
+    step_within : sighted_within (length xs₀) before (m ∷ left) ≡ places_within (length xs₀) ms
     step_within = ap (sighted_within (length xs₀) before) (sym first) ∙ at.within
 
     -- What `sight` gave.
@@ -62,7 +58,7 @@ module _ (mx my xs₀ ys₀ : List Float) (cs₀ : List ℕ) where
           laid_over xs ys cs xs' ys' cs' before qs xs₀ ys₀ cs₀ at.laid b
           (laid_as xs ys cs xs' ys' cs' (sighted_within (length xs) before (m ∷ [])) qs a e.1)
 
-      pub distinct_on : (r : ℕ) → o ≡ Some r → Reached mx my xs₀ ys₀ cs₀ xs' ys' cs' r (k + 1)
+      pub distinct_on : (r : ℕ) → o ≡ Some r → Reached ms xs₀ ys₀ cs₀ xs' ys' cs' r (k + 1)
       distinct_on r d = record {
         rest = ap (λ (z : List Place). sighted_all z left) f ∙ step;
         within = ap (λ (z : List Place). sighted_within (length xs₀) z left) f ∙ sym (within_on (length xs₀) before m left (omega (arith, many))) ∙ step_within;
@@ -83,33 +79,33 @@ module _ (mx my xs₀ ys₀ : List Float) (cs₀ : List ℕ) where
           f : front xs' ys' cs' r ≡ next
           f = front_laid xs₀ ys₀ cs₀ xs' ys' cs' next r many.0 t
 
-      pub distinct_full : o ≡ None → {z : Option ℕ} → z ≡ None → DistinctLaid mx my xs₀ ys₀ cs₀ z xs' ys' cs'
+      pub distinct_full : o ≡ None → {z : Option ℕ} → z ≡ None → DistinctLaid ms xs₀ ys₀ cs₀ z xs' ys' cs'
       distinct_full d g =
           let stop = sym (within_stop (length xs₀) before m left (omega (arith, many))) ∙ step_within in
           let laid = laid_now before (within_stop (length xs) before m [] many) (omega arith) in
-          let end = laid_as xs₀ ys₀ cs₀ xs' ys' cs' before (places_within (length xs₀) (points mx my)) stop laid in
-          (g ∙ counted_beyond (length xs₀) (places (points mx my)) over, end.0, end.1, end.2)
+          let end = laid_as xs₀ ys₀ cs₀ xs' ys' cs' before (places_within (length xs₀) ms) stop laid in
+          (g ∙ counted_beyond (length xs₀) (places ms) over, end.0, end.1, end.2)
         where
           many : length xs < length next
           many = within_none (length xs) next (sym d ∙ e.0)
 
-          over : length xs₀ < length (places (points mx my))
+          over : length xs₀ < length (places ms)
           over = rw step at (let a = longer_all next left in let z : length xs₀ < length (sighted_all next left) = omega (arith, many) in z)
 
-  pub distinct_end : (xs ys : List Float) (cs : List ℕ) (n k : ℕ) → Reached mx my xs₀ ys₀ cs₀ xs ys cs n k → length ys ≡ length xs
-      → length cs ≡ length xs → length xs ≡ length xs₀ → length mx ≤ k → DistinctLaid mx my xs₀ ys₀ cs₀ (Some n) xs ys cs
+  pub distinct_end : (xs ys : List Float) (cs : List ℕ) (n k : ℕ) → Reached ms xs₀ ys₀ cs₀ xs ys cs n k → length ys ≡ length xs
+      → length cs ≡ length xs → length xs ≡ length xs₀ → length ms ≤ k → DistinctLaid ms xs₀ ys₀ cs₀ (Some n) xs ys cs
   distinct_end xs ys cs n k at p q l h =
-      let end = laid_as xs₀ ys₀ cs₀ xs ys cs (front xs ys cs n) (places_within (length xs₀) (points mx my)) b at.laid in
-      (counted_within (length xs₀) (places (points mx my)) n c at.few, end.0, end.1, end.2)
+      let end = laid_as xs₀ ys₀ cs₀ xs ys cs (front xs ys cs n) (places_within (length xs₀) ms) b at.laid in
+      (counted_within (length xs₀) (places ms) n c at.few, end.0, end.1, end.2)
     where
-      none : points (drop k mx) (drop k my) ≡ []
-      none = unfold points in rw (drop_of_length-le mx {i = k} h)
+      none : drop k ms ≡ []
+      none = drop_of_length-le ms {i = k} h
 
-      a : front xs ys cs n ≡ places (points mx my)
+      a : front xs ys cs n ≡ places ms
       a = unfold sighted_all in ap (sighted_all (front xs ys cs n)) (sym none) ∙ at.rest
 
-      b : front xs ys cs n ≡ places_within (length xs₀) (points mx my)
+      b : front xs ys cs n ≡ places_within (length xs₀) ms
       b = unfold sighted_within in ap (sighted_within (length xs₀) (front xs ys cs n)) (sym none) ∙ at.within
 
-      c : n ≡ length (places (points mx my))
+      c : n ≡ length (places ms)
       c = sym (length_front xs ys cs n p q (omega (arith, at.few))) ∙ ap length a

@@ -10,11 +10,12 @@ use Rattle.lists.specs.Lists.{overlay}
 use Rattle.lists.proofs.Overlay.{take_front, overlay_front, overlay_over}
 use Rattle.std.specs.Prelude.{Option, Some, None}
 use Rattle.distance.specs.declared.Point.{Point}
+use Rattle.distance.specs.Distance.{points}
 use Rattle.neighbors.specs.Places.{Place, place_of, sighted, places_in, place_xs, place_ys}
-use Rattle.neighbors.specs.StepsPlaces.{stay_count, sighted_within, place_counts, front, PlaceFound, Laid, OneMoreLaid}
+use Rattle.neighbors.specs.StepsPlaces.{stay_count, sighted_within, place_counts, place_points, front, PlaceFound, Laid, OneMoreLaid}
 use Rattle.neighbors.proofs.Sighted.{length_places_in, sighted_old, sighted_new, length_old, length_new, count_le, count_in}
 use Rattle.neighbors.proofs.Search.{found_some, found_no}
-use Rattle.neighbors.proofs.Within.{within_on, within_stop, counted_within, counted_beyond, length_place_xs, length_place_ys, length_place_counts, places_columns, place_xs_in, place_ys_in, place_counts_in}
+use Rattle.neighbors.proofs.Within.{within_on, within_stop, counted_within, counted_beyond, length_place_xs, length_place_ys, length_place_counts, places_columns, place_xs_in, place_ys_in, place_counts_in, place_points_in}
 
 -- ---- the front of longer slices
 
@@ -104,14 +105,17 @@ module _ (xs ys : List Float) (cs : List ℕ) (n : ℕ) (m : Point) (p : length 
   ff : length before ≡ n
   ff = length_front xs ys cs n p q h
 
+  there : place_points before ≡ points (take n xs) (take n ys)
+  there = sym (place_points_in (take n xs) (take n ys) (take n cs) fy fc)
+
   -- There is room.
   room : length (sighted before m) ≤ length xs → within ≡ sighted before m
   unfolding sighted_within
   room l = within_on (length xs) before m [] l
 
-  module _ {o : Option ℕ} (found : PlaceFound (take n xs) (take n ys) m o) (i : ℕ) (d : o ≡ Some i) where
+  module _ {o : Option ℕ} (found : PlaceFound (points (take n xs) (take n ys)) m o) (i : ℕ) (d : o ≡ Some i) where
     at : (i ≡ place_of before m) × (i < length before)
-    at = found_some before m i (sym d ∙ found (take n cs) fc)
+    at = found_some before m i (sym d ∙ found before there)
 
     e : i ≡ place_of before m
     e = at.0
@@ -144,9 +148,9 @@ module _ (xs ys : List Float) (cs : List ℕ) (n : ℕ) (m : Point) (p : length 
         cs' : List ℕ
         cs' = set cs i (get_or cs i 0 + 1)
 
-  module _ {o : Option ℕ} (found : PlaceFound (take n xs) (take n ys) m o) (d : o ≡ None) where
+  module _ {o : Option ℕ} (found : PlaceFound (points (take n xs) (take n ys)) m o) (d : o ≡ None) where
     none : length before ≤ place_of before m
-    none = found_no before m (sym d ∙ found (take n cs) fc)
+    none = found_no before m (sym d ∙ found before there)
 
     more : n + 1 ≡ length (sighted before m)
     more = omega (arith, length_new before m none, ff)

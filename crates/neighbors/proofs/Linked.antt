@@ -72,9 +72,6 @@ module _ (xs ys : List Float) (cs : List ℕ) (p : length ys ≡ length xs) (q :
   pub column_lt : i < length xs
   column_lt = let e = length_places_in xs ys cs p q in omega arith
 
-  pub at_place : record { x = get_or xs i nan; y = get_or ys i nan } ≡ (place_at (places_in xs ys cs) i).at
-  at_place = ap (λ (a : Place). a.at) (sym (place_in xs ys cs i p q column_lt))
-
   pub count_place : get_or cs i 0 ≡ (place_at (places_in xs ys cs) i).count
   count_place = ap (λ (a : Place). a.count) (sym (place_in xs ys cs i p q column_lt))
 

@@ -1,5 +1,5 @@
 -- What a search for a place answers.
-use mathlib.Core.Path.{◌≡◌, refl, ◌∙◌}
+use mathlib.Core.Path.{◌≡◌, refl, ap, ◌∙◌}
 use mathlib.Core.Bool.{Bool, true, false, not, cond}
 use mathlib.Core.List.{List, [], ◌∷◌}
 use Prim.Native.Nat.{ℕ, suc, ◌+◌, ◌<◌, ◌≤◌}
@@ -13,9 +13,11 @@ use Rattle.std.specs.Prelude.{Option, Some, None}
 use Rattle.std.specs.List.{position_or_len, zip}
 use Rattle.std.proofs.lemmas.Slice.Zip.{length-zip}
 use Rattle.distance.specs.declared.Point.{Point}
-use Rattle.neighbors.specs.Places.{Place, same_place, place_of, places_in}
-use Rattle.neighbors.specs.StepsPlaces.{place_found, PlaceFound}
-use Rattle.neighbors.proofs.Sighted.{length_places_in}
+use Rattle.distance.specs.Distance.{points}
+use Rattle.distance.proofs.Columns.{length_points}
+use Rattle.neighbors.specs.Places.{Place, same_place, place_of}
+use Rattle.neighbors.specs.StepsPlaces.{place_points, place_found, PlaceFound}
+use Rattle.neighbors.proofs.Within.{length_place_points}
 
 -- ---- what `place_found` answers
 
@@ -51,20 +53,25 @@ module _ (m : Point) where
   abbrev pub is_at : Float × Float → Bool
   is_at p = same_place (record { x = p.0; y = p.1 }) m
 
-  place_of_pairs : (xs ys : List Float) (cs : List ℕ) → length ys ≡ length xs → length cs ≡ length xs → place_of (places_in xs ys cs) m ≡ position_or_len is_at (zip xs ys)
-  unfolding place_of places_in
-  place_of_pairs [] ys cs p q = refl
-  place_of_pairs (x ∷ xs) [] cs p q = absurd (omega arith)
-  place_of_pairs (x ∷ xs) (y ∷ ys) [] p q = absurd (omega arith)
-  place_of_pairs (x ∷ xs) (y ∷ ys) (c ∷ cs) p q = go (is_at (x, y)) (place_of_pairs xs ys cs (omega arith) (omega arith))
+  place_of_pairs : (ps : List Place) (xs ys : List Float) → length ys ≡ length xs → place_points ps ≡ points xs ys → place_of ps m ≡ position_or_len is_at (zip xs ys)
+  unfolding place_of place_points points
+  place_of_pairs [] [] ys p q = refl
+  place_of_pairs [] (x ∷ xs) [] p q = absurd (omega arith)
+  place_of_pairs [] (x ∷ xs) (y ∷ ys) p q = absurd (cc)
+  place_of_pairs (a ∷ ps) [] ys p q = absurd (cc)
+  place_of_pairs (a ∷ ps) (x ∷ xs) [] p q = absurd (omega arith)
+  place_of_pairs (a ∷ ps) (x ∷ xs) (y ∷ ys) p q =
+      let here : a.at ≡ record { x = x; y = y } = cc in
+      let rest : place_points ps ≡ points xs ys = cc in
+      rw here (go (is_at (x, y)) (place_of_pairs ps xs ys (omega arith) rest))
     where
-      go : (b : Bool) → place_of (places_in xs ys cs) m ≡ position_or_len is_at (zip xs ys) → cond b 0 (suc (place_of (places_in xs ys cs) m)) ≡ cond (not b) (1 + position_or_len is_at (zip xs ys)) 0
+      go : (b : Bool) → place_of ps m ≡ position_or_len is_at (zip xs ys) → cond b 0 (suc (place_of ps m)) ≡ cond (not b) (1 + position_or_len is_at (zip xs ys)) 0
       go true e = refl
       go false e = omega arith
 
   pub pairs_found : (xs ys : List Float) {r : Option ℕ} → length ys ≡ length xs
-      → r ≡ cond (ltb (position_or_len is_at (zip xs ys)) (length (zip xs ys))) (Some (position_or_len is_at (zip xs ys))) None → PlaceFound xs ys m r
+      → r ≡ cond (ltb (position_or_len is_at (zip xs ys)) (length (zip xs ys))) (Some (position_or_len is_at (zip xs ys))) None → PlaceFound (points xs ys) m r
   unfolding place_found
-  pairs_found xs ys p e cs q =
-      let l : length (places_in xs ys cs) ≡ length (zip xs ys) = omega (arith, length_places_in xs ys cs p q, length-zip xs ys) in
-      rw (place_of_pairs xs ys cs p q, l) e
+  pairs_found xs ys p e ps q =
+      let l : length ps ≡ length (zip xs ys) = omega (arith, length_place_points ps, ap length q, length_points xs ys p, length-zip xs ys) in
+      rw (place_of_pairs ps xs ys p q, l) e

@@ -10,7 +10,8 @@ use lib.Ieee.{Float}
 use Rattle.std.specs.Prelude.{Some, None}
 use Rattle.distance.specs.declared.Point.{Point}
 use Rattle.neighbors.specs.Places.{Place, sighted, sighted_all, places, places_in, place_xs, place_ys}
-use Rattle.neighbors.specs.StepsPlaces.{sighted_within, places_within, place_counts, distinct_within}
+use Rattle.distance.specs.Distance.{points}
+use Rattle.neighbors.specs.StepsPlaces.{sighted_within, places_within, place_counts, place_points, distinct_within}
 use Rattle.neighbors.proofs.Sighted.{longer_all}
 
 -- ---- the cap
@@ -73,6 +74,10 @@ pub length_place_counts : (ps : List Place) → length (place_counts ps) ≡ len
 unfolding place_counts
 length_place_counts ps = length-map ps (λ (p : Place). p.count)
 
+pub length_place_points : (ps : List Place) → length (place_points ps) ≡ length ps
+unfolding place_points
+length_place_points ps = length-map ps (λ (p : Place). p.at)
+
 -- Places are those of their columns.
 pub places_columns : (ps : List Place) → places_in (place_xs ps) (place_ys ps) (place_counts ps) ≡ ps
 unfolding places_in place_xs place_ys place_counts
@@ -102,3 +107,11 @@ place_counts_in [] ys (c ∷ cs) p q = absurd (omega arith)
 place_counts_in (x ∷ xs) [] cs p q = absurd (omega arith)
 place_counts_in (x ∷ xs) (y ∷ ys) [] p q = absurd (omega arith)
 place_counts_in (x ∷ xs) (y ∷ ys) (c ∷ cs) p q = ap {B = List ℕ} (λ r. c ∷ r) (place_counts_in xs ys cs (omega arith) (omega arith))
+
+-- The points of such places are those of the first two.
+pub place_points_in : (xs ys : List Float) (cs : List ℕ) → length ys ≡ length xs → length cs ≡ length xs → points xs ys ≡ place_points (places_in xs ys cs)
+unfolding places_in place_points points
+place_points_in [] ys cs p q = refl
+place_points_in (x ∷ xs) [] cs p q = absurd (omega arith)
+place_points_in (x ∷ xs) (y ∷ ys) [] p q = absurd (omega arith)
+place_points_in (x ∷ xs) (y ∷ ys) (c ∷ cs) p q = ap {B = List Point} (λ r. record { x = x; y = y } ∷ r) (place_points_in xs ys cs (omega arith) (omega arith))

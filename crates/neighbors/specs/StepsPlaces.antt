@@ -4,7 +4,6 @@ use Rattle.std.specs.Prelude.{◌≡◌, ℕ, ◌+◌, ◌<◌, ◌≤◌, cond,
 use Rattle.lists.specs.Lists.{overlay}
 use Rattle.distance.specs.declared.Point.{Point}
 use Rattle.neighbors.specs.Places.{Place, sighted, places, place_of, places_in, place_xs, place_ys}
-use Rattle.distance.specs.Distance.{points}
 
 -- All stays of all places.
 unfoldable pub stay_count : List Place → ℕ
@@ -24,6 +23,10 @@ places_within cap ms = sighted_within cap [] ms
 unfoldable pub place_counts : List Place → List ℕ
 place_counts ps = map (λ (p : Place). p.count) ps
 
+-- The point of each place.
+unfoldable pub place_points : List Place → List Point
+place_points ps = map (λ (p : Place). p.at) ps
+
 -- The n places at the front of longer slices.
 abbrev pub front : List Float → List Float → List ℕ → ℕ → List Place
 front xs ys cs n = places_in (take n xs) (take n ys) (take n cs)
@@ -36,9 +39,9 @@ distinct_within cap ps = cond (leb (length ps) cap) (Some (length ps)) None
 unfoldable pub place_found : List Place → Point → Option ℕ
 place_found ps m = cond (ltb (place_of ps m) (length ps)) (Some (place_of ps m)) None
 
--- r is the number of the place of m among the places of two columns, whatever their counts are.
-abbrev pub PlaceFound : List Float → List Float → Point → Option ℕ → Type 0
-PlaceFound xs ys m r = (cs : List ℕ) → length cs ≡ length xs → r ≡ place_found (places_in xs ys cs) m
+-- r is the number of the place of m among the places at the points qs, whatever their counts are.
+abbrev pub PlaceFound : List Point → Point → Option ℕ → Type 0
+PlaceFound qs m r = (ps : List Place) → place_points ps ≡ qs → r ≡ place_found ps m
 
 -- Three slices of one length with n places in front, whose stays are fewer than 65,536.
 abbrev pub PlacesInFront : List Float → List Float → List ℕ → ℕ → Type 0
@@ -53,9 +56,9 @@ abbrev pub OneMoreLaid : List Float → List Float → List ℕ → ℕ → Poin
 OneMoreLaid xs ys cs n m r xs' ys' cs' =
     (r ≡ distinct_within (length xs) (sighted (front xs ys cs n) m)) × Laid (sighted_within (length xs) (front xs ys cs n) (m ∷ [])) xs ys cs xs' ys' cs'
 
--- The places of medians in two columns: r tells how many there are, and the slices hold those that there is room for.
-abbrev pub DistinctLaid : List Float → List Float → List Float → List Float → List ℕ → Option ℕ → List Float → List Float → List ℕ → Type 0
-DistinctLaid mx my xs ys cs r xs' ys' cs' =
-    let ps = places_within (length xs) (points mx my) in
-    (r ≡ distinct_within (length xs) (places (points mx my)))
+-- The places of the medians ms: r tells how many there are, and the slices hold those that there is room for.
+abbrev pub DistinctLaid : List Point → List Float → List Float → List ℕ → Option ℕ → List Float → List Float → List ℕ → Type 0
+DistinctLaid ms xs ys cs r xs' ys' cs' =
+    let ps = places_within (length xs) ms in
+    (r ≡ distinct_within (length xs) (places ms))
     × (xs' ≡ overlay (place_xs ps) xs) × (ys' ≡ overlay (place_ys ps) ys) × (cs' ≡ overlay (place_counts ps) cs)

@@ -1,10 +1,19 @@
 // The nodes: the places with a link, in place order, and the table of their weights.
-// Kept as it is: a table and how many columns it has, as two parameters. A struct of both is no plainer: `compact` and `compact_row` write the
-// table, so that each of their contracts would have to add that the struct still holds the slice that it held, and they leave a table of as
-// many columns as there are nodes in front, so that the struct's number would then be wrong.
+// Kept as it is: the table stands in no struct with the number of its columns. `compact` and `compact_row` write the table, so that each
+// of their contracts would have to add that the struct still holds the slice that it held, and they leave a table of as many columns as there are
+// nodes in front, so that the struct's number would then be wrong.
 ghost use Rattle.std.specs.Prelude.{◌≡◌, ◌*◌, ◌<◌, ◌≤◌, length};
 ghost use Rattle.lists.specs.Lists.{overlay};
 ghost use Rattle.neighbors.specs.StepsTables.{has_weight, rows_with_weight, RowNumbers, Compacted, RowMoved};
+
+// Nodes among n places, by the numbers of their places: none is below its own place in the list, as where they rise.
+#[derive(Clone, Copy, Debug, PartialEq, Eq)]
+pub struct Nodes<'a> {
+    pub n: usize,
+    pub numbers: &'a [u32],
+    pub ghost few: { n ≤ 512 },
+    pub ghost rise: { RowNumbers n numbers.now },
+}
 
 // Whether row i of a table of n columns has a weight above 0.
 fn has_weight(table: &[f64], n: usize, i: usize) -> bool
@@ -33,24 +42,24 @@ pub fn find_nodes(table: &[f64], n: usize, nodes: &mut [u32]) -> usize
 
 // Moves row u of the nodes' cells to the front.
 #[tactic(auto, using(crate::proofs::Compact::compact_less, crate::proofs::Compact::compact_row))]
-fn compact_row(table: &mut [f64], n: usize, nodes: &[u32], u: usize)
-    requires { (n ≤ 512) × (n * n ≤ length table.old) × (u < length nodes.now) × (RowNumbers n nodes.now) }
-    ensures { RowMoved n nodes.now u table.old table.new }
+fn compact_row(table: &mut [f64], nodes: Nodes, u: usize)
+    requires { (nodes.n * nodes.n ≤ length table.old) × (u < length nodes.numbers.now) }
+    ensures { RowMoved nodes.entry.n nodes.entry.numbers.now u table.old table.new }
 {
-    let k = nodes.len();
-    let i = nodes[u] as usize;
-    for (v, &j) in nodes.iter().enumerate() {
-        table[u * k + v] = table[i * n + j as usize];
+    let k = nodes.numbers.len();
+    let i = nodes.numbers[u] as usize;
+    for (v, &j) in nodes.numbers.iter().enumerate() {
+        table[u * k + v] = table[i * nodes.n + j as usize];
     }
 }
 
-// Makes the table of n columns one of the nodes' rows and columns, at its front.
+// Makes the table, which has a column for each place, one of the nodes' rows and columns, at its front.
 #[tactic(auto, using(crate::proofs::Compact::compact_none, crate::proofs::Compact::compact_all))]
-pub fn compact(table: &mut [f64], n: usize, nodes: &[u32])
-    requires { (n ≤ 512) × (n * n ≤ length table.old) × (RowNumbers n nodes.now) }
-    ensures { Compacted n nodes.now table.old table.new (length nodes.now * length nodes.now) }
+pub fn compact(table: &mut [f64], nodes: Nodes)
+    requires { nodes.n * nodes.n ≤ length table.old }
+    ensures { Compacted nodes.entry.n nodes.entry.numbers.now table.old table.new (length nodes.entry.numbers.now * length nodes.entry.numbers.now) }
 {
-    for u in 0..nodes.len() {
-        compact_row(table, n, nodes, u);
+    for u in 0..nodes.numbers.len() {
+        compact_row(table, nodes, u);
     }
 }

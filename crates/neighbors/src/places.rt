@@ -1,9 +1,10 @@
 // Distinct medians: one place if both bit patterns agree, numbered by first sight.
 ghost use Rattle.std.specs.Prelude.{◌≡◌, ◌<◌, ◌≤◌, length};
+ghost use Rattle.distance.specs.Steps.{points_of};
 ghost use Rattle.neighbors.specs.Places.{same_place, place_at};
-ghost use Rattle.neighbors.specs.StepsPlaces.{PlaceFound, PlacesInFront, OneMoreLaid, DistinctLaid};
+ghost use Rattle.neighbors.specs.StepsPlaces.{place_points, PlaceFound, PlacesInFront, OneMoreLaid, DistinctLaid};
 
-use distance::Point;
+use distance::{Point, Points};
 use std::marker::Model;
 
 // Places in columns of one length that are only read: place i is at xs[i], ys[i] and has counts[i] stays. Contracts see the list of places.
@@ -35,14 +36,24 @@ impl<'a> Places<'a> {
         self.xs.len()
     }
 
+    // Where the places are.
+    #[tactic(auto, using(crate::proofs::Within::place_points_in))]
+    pub fn points(&self) -> Points<'a>
+        ensures { points_of result ≡ place_points self.now }
+    {
+        Points {
+            xs: self.xs,
+            ys: self.ys,
+        }
+    }
+
     // Where place i is.
-    #[tactic(auto, using(crate::proofs::Linked::column_lt, crate::proofs::Linked::at_place))]
+    #[tactic(auto, using(crate::proofs::Within::length_place_points), unfolding(crate::specs::StepsPlaces::place_points))]
     pub(crate) fn at(&self, i: usize) -> Point
         requires { i < length self.now }
         ensures { result ≡ (place_at self.now i).at }
     {
-        let (xs, ys) = (self.xs, self.ys);
-        Point { x: xs[i], y: ys[i] }
+        self.points().at(i)
     }
 
     // How many stays are at place i.
@@ -65,25 +76,31 @@ pub fn same_place(a: Point, b: Point) -> bool
     float::same_bits(a.x, b.x) && float::same_bits(a.y, b.y)
 }
 
-// The number of the place of m, if it has one.
-pub fn place_of(xs: &[f64], ys: &[f64], m: Point) -> Option<usize>
-    requires { length ys.now ≡ length xs.now }
-    ensures { PlaceFound xs.now ys.now m result }
+// The number of the place of m, if it has one, from where the places are.
+pub fn place_of(places: Points, m: Point) -> Option<usize>
+    ensures { PlaceFound (points_of places.entry) m result }
 {
-    xs.iter()
-        .zip(ys)
+    places
+        .xs
+        .iter()
+        .zip(places.ys)
         .position(|(&x, &y)| same_place(Point { x, y }, m))
 }
 
 // One more stay with the median m, where n places stand in front: how many there are then. Where that is one more than there is room for,
 // the answer is None, and nothing is written.
 // Kept as it is: here and in `distinct` the three columns are written. A struct of `&mut` slices is no plainer: each contract would have to
-// add that every field still holds the slice that it held, which three parameters of their own say by themselves.
+// add that every field still holds the slice that it held, which three parameters of their own say by themselves. A struct that owns arrays would ask the
+// callers of `distinct` for arrays of its size, where slices of any one length are taken.
 fn sight(xs: &mut [f64], ys: &mut [f64], counts: &mut [u32], n: usize, m: Point) -> Option<usize>
     requires { PlacesInFront xs.old ys.old counts.old n }
     ensures { OneMoreLaid xs.old ys.old counts.old n m result xs.new ys.new counts.new }
 {
-    if let Some(i) = place_of(&xs[..n], &ys[..n], m) {
+    let there = Points {
+        xs: &xs[..n],
+        ys: &ys[..n],
+    };
+    if let Some(i) = place_of(there, m) {
         counts[i] += 1;
         return Some(n);
     }
@@ -99,19 +116,17 @@ fn sight(xs: &mut [f64], ys: &mut [f64], counts: &mut [u32], n: usize, m: Point)
 // Writes the places of the medians in order, with their counts, to the front of the slices, and tells how many there are; None at the first
 // median whose place has no room, and then the slices hold the places of the medians before it.
 pub fn distinct(
-    mx: &[f64],
-    my: &[f64],
+    medians: Points,
     xs: &mut [f64],
     ys: &mut [f64],
     counts: &mut [u32],
 ) -> Option<usize>
-    requires { (length my.now ≡ length mx.now) × (length mx.now ≤ 65536) × (length ys.old ≡ length xs.old) × (length counts.old ≡ length xs.old) }
-    ensures { DistinctLaid mx.now my.now xs.old ys.old counts.old result xs.new ys.new counts.new }
+    requires { (length (points_of medians) ≤ 65536) × (length ys.old ≡ length xs.old) × (length counts.old ≡ length xs.old) }
+    ensures { DistinctLaid (points_of medians.entry) xs.old ys.old counts.old result xs.new ys.new counts.new }
 {
     let mut n = 0;
-    for k in 0..mx.len() {
-        let m = Point { x: mx[k], y: my[k] };
-        n = sight(xs, ys, counts, n, m)?;
+    for k in 0..medians.len() {
+        n = sight(xs, ys, counts, n, medians.at(k))?;
     }
     Some(n)
 }

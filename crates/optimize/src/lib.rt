@@ -71,6 +71,7 @@ fn act(net: &Network, s: &mut MapState, u: usize, a: Scan, moved: bool) -> bool
 }
 
 // Asks the nodes in their order, and moves each as it is answered.
+#[tactic(auto, using(crate::proofs::Passes::node_in, crate::proofs::Passes::pass_end, crate::proofs::Numbers::highest_le))]
 fn pass<A: Ask>(net: &Network, s: &mut MapState, order: &[u32], start: bool) -> bool
     requires { (PassFrom net.now s.old order.now) × Rises A.answer }
     ensures { pass_of s.new result ≡ pass A.answer net.now (pass_of s.old start) order.now }
@@ -96,6 +97,7 @@ fn round(net: &Network, r: &mut RunState, order: &mut [u32])
 }
 
 // Rounds, up to 100, until one moves nothing.
+#[tactic(auto, using(crate::proofs::Numbers::at_most_more))]
 fn run_rounds(net: &Network, r: &mut RunState, order: &mut [u32])
     requires { (RoundFrom 512 net.now r.old order.old) × (r.old.rounds ≡ 0) }
     ensures { RoundEnds (run_rounds net.now 100 true (run_of r.old)) (last_visits_from net.now 100 true (run_of r.old) order.old) r.new order.new }
@@ -110,6 +112,7 @@ fn run_rounds(net: &Network, r: &mut RunState, order: &mut [u32])
 
 // Each of n nodes in a group of its own, before any sum is made.
 // Kept as it is: arrays of fixed size, since the project takes no heap (docs/DECISIONS.md, "No heap").
+#[tactic(auto, using(rng::proofs::Counts::counted, crate::proofs::Start::firsts_filled, crate::proofs::Start::filled))]
 fn scattered(n: usize) -> MapState
     requires { n ≤ 512 }
     ensures { result.partition ≡ upto n }
@@ -127,6 +130,7 @@ fn scattered(n: usize) -> MapState
 }
 
 // A trial from the generator's state `rng`.
+#[tactic(auto, using(crate::proofs::Start::at_most_filled, lists::proofs::Upto::length_upto), unfolding(codelength::specs::Codelength::from_partition))]
 pub fn optimize_partition(net: &Network, order: &mut [u32], rng: u64) -> RunState
     requires { length order.old ≡ length net.now.strength }
     ensures { TrialEnds net.now rng order.new result }

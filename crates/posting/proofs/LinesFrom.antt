@@ -7,7 +7,7 @@ use native.Mathlib.Omega.{arith}
 use borrow.Author.Tests.{eq-eqb, ne_eqb}
 use lib.IntN.{ℤ, pos}
 use lib.ListN.{length, get_or, take, drop, drop_of_length-le}
-use lib.Seq.{drop-cons, drop-drop}
+use lib.Seq.{drop-cons, length-take-le}
 use Rattle.trace.specs.Trace.{total}
 use Rattle.print.specs.Steps.{Out, pushes}
 use Rattle.print.proofs.Pushes.{and_then}
@@ -74,36 +74,36 @@ trace_end o ls i t f h p = rw (drop_of_length-le ls {i = f} h) at p
 
 -- ---- the fixes of all traces
 
--- The next trace: its labels are the n from i on.
-pub sheet_on : (o o₁ : Out) (lens : List ℕ) (ls : List ℤ) (t i : ℕ) (part : List ℤ) {v : Out} → t < length lens → part ≡ take (get_or lens t 0) (drop i ls)
-    → length part ≡ get_or lens t 0 → o₁ ≡ pushes o (flatten (lines_from i (trace_entries t 0 part)))
-    → pushes o (flatten (lines_from i (entries t (drop t lens) (drop i ls)))) ≡ v
-    → pushes o₁ (flatten (lines_from (i + get_or lens t 0) (entries (t + 1) (drop (t + 1) lens) (drop (i + get_or lens t 0) ls)))) ≡ v
+-- The next trace: its labels are the first of those that are left.
+pub sheet_on : (o o₁ : Out) (lens : List ℕ) (ls : List ℤ) (t i j : ℕ) {v : Out} → t < length lens → get_or lens t 0 ≤ length ls → j ≡ i + get_or lens t 0
+    → o₁ ≡ pushes o (flatten (lines_from i (trace_entries t 0 (take (get_or lens t 0) ls))))
+    → pushes o (flatten (lines_from i (entries t (drop t lens) ls))) ≡ v
+    → pushes o₁ (flatten (lines_from j (entries (t + 1) (drop (t + 1) lens) (drop (get_or lens t 0) ls)))) ≡ v
 unfolding entries
-sheet_on o o₁ lens ls t i part h a n e p =
+sheet_on o o₁ lens ls t i j h n a e p =
     let k = get_or lens t 0 in
-    let es = trace_entries t 0 part in
-    let more = entries (t + 1) (drop (t + 1) lens) (drop (i + k) ls) in
+    let es = trace_entries t 0 (take k ls) in
+    let more = entries (t + 1) (drop (t + 1) lens) (drop k ls) in
     let d : drop t lens ≡ k ∷ drop (t + 1) lens = rw (add-one t, drop-cons lens t 0 h) in
-    let b : entries t (drop t lens) (drop i ls) ≡ es ++ more = rw (d, ← a, drop-drop k i ls, add-one t) in
-    let c : lines_from i (es ++ more) ≡ lines_from i es ++ lines_from (i + k) more =
-    lines_append i es more ∙ ap (λ (z : ℕ). lines_from i es ++ lines_from (i + z) more) (trace_length t 0 part ∙ n) in
-    let q = ap flatten (ap (lines_from i) b ∙ c) ∙ flatten_append (lines_from i es) (lines_from (i + k) more) in
-    and_then o o₁ (pushes o₁ (flatten (lines_from (i + k) more))) (flatten (lines_from i es)) (flatten (lines_from (i + k) more)) e refl ∙ ap (pushes o) (sym q) ∙ p
+    let b : entries t (drop t lens) ls ≡ es ++ more = rw (d, add-one t) in
+    let c : lines_from i (es ++ more) ≡ lines_from i es ++ lines_from j more =
+    lines_append i es more ∙ ap (λ (z : ℕ). lines_from i es ++ lines_from z more) (ap (λ (z : ℕ). i + z) (trace_length t 0 (take k ls) ∙ length-take-le k ls n) ∙ sym a) in
+    let q = ap flatten (ap (lines_from i) b ∙ c) ∙ flatten_append (lines_from i es) (lines_from j more) in
+    and_then o o₁ (pushes o₁ (flatten (lines_from j more))) (flatten (lines_from i es)) (flatten (lines_from j more)) e refl ∙ ap (pushes o) (sym q) ∙ p
 
 pub sheet_end : (o : Out) (lens : List ℕ) (ls : List ℤ) (t i : ℕ) {v : Out} → length lens ≤ t
     → pushes o (flatten (lines_from i (entries t (drop t lens) ls))) ≡ v → o ≡ v
 unfolding entries lines_from flatten pushes
 sheet_end o lens ls t i h p = rw (drop_of_length-le lens {i = t} h) at p
 
--- The next trace ends within the n labels, and the lengths of those after it add up to the rest.
-module _ (lens : List ℕ) (t i n : ℕ) (h : t < length lens) (sum : i + total (drop t lens) ≡ n) where
+-- The next trace ends within the n labels that are left, and the lengths of those after it add up to the rest.
+module _ (lens : List ℕ) (t n : ℕ) (h : t < length lens) (sum : total (drop t lens) ≡ n) where
   next_sum : total (drop t lens) ≡ get_or lens t 0 + total (drop (t + 1) lens)
   unfolding total
   next_sum = rw (add-one t, drop-cons lens t 0 h)
 
-  pub trace_fits : i + get_or lens t 0 ≤ n
+  pub trace_fits : get_or lens t 0 ≤ n
   trace_fits = omega (arith, next_sum)
 
-  pub traces_left : i + get_or lens t 0 + total (drop (t + 1) lens) ≡ n
+  pub traces_left : get_or lens t 0 + total (drop (t + 1) lens) ≡ n
   traces_left = omega (arith, next_sum)

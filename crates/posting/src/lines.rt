@@ -34,16 +34,18 @@ fn put_trace(out: &mut Output, i: usize, t: u64, labels: &[i32])
 // The lines of all traces.
 // Kept as it is, beside `put_lines` of crate `print`: that one takes labels that end early and asks nothing; this one asks `SheetWithin`, and hands on how
 // many fixes stand before the trace, for the headings. One walk over a closure that writes a trace would have to ask of each call what only this one needs
-// (`TraceWithin i t part`), and to say what was written as two kinds of lines, `lines` there and `lines_from` here.
+// (`TraceWithin i t part`), and to say what was written as two kinds of lines, `lines` there and `lines_from` here. An iterator of the parts of the labels,
+// as `trace::traces::Traces` is of the traces, would be some forty lines of code and a file of laws, for two loops of three and four lines.
 #[tactic(auto, using(crate::proofs::LinesFrom::trace_fits))]
 pub fn put_lines(out: &mut Output, lens: &[u32], labels: &[i32])
     requires { SheetWithin lens.now labels.now }
     ensures { Wrote out.old out.new (flatten (lines_from 0 (entries 0 lens.now labels.now))) }
 {
-    let mut i = 0;
+    let mut rest = labels;
     for (t, &len) in lens.iter().enumerate() {
-        let end = i + len as usize;
-        put_trace(out, i, t as u64, &labels[i..end]);
-        i = end;
+        let before = labels.len() - rest.len();
+        let (part, behind) = rest.split_at(len as usize);
+        put_trace(out, before, t as u64, part);
+        rest = behind;
     }
 }

@@ -1,11 +1,11 @@
 -- Labels and their lines, as the loops write them.
 use mathlib.Core.Path.{◌≡◌, refl, sym, ap, ◌∙◌}
 use mathlib.Core.List.{List, [], ◌∷◌, ◌++◌}
-use Prim.Native.Nat.{ℕ, ◌+◌, ◌-◌, ◌≤◌, ◌<◌, min}
+use Prim.Native.Nat.{ℕ, ◌+◌, ◌≤◌, ◌<◌, min}
 use native.Mathlib.Numerals.{add-one}
 use native.Mathlib.Omega.{arith}
-use lib.ListN.{length, get_or, take, drop, length-drop, drop_of_length-le}
-use lib.Seq.{drop-cons, drop-drop}
+use lib.ListN.{length, get_or, take, drop, drop_of_length-le}
+use lib.Seq.{drop-cons}
 use lib.IntN.{ℤ, pos, negsuc, nat_abs}
 use Rattle.std.specs.Int.{FitsUnsignedBits}
 use Rattle.std.proofs.lemmas.List.{take_min, drop_min}
@@ -43,20 +43,19 @@ trace_end o ls t f h p = rw (drop_of_length-le ls {i = f} h) at p
 
 -- ---- the lines of all traces
 
--- The next trace: its labels are the k from i on.
-pub lines_on : (o o₁ : Out) (lens : List ℕ) (ls : List ℤ) (t i k j : ℕ) {v : Out} → t < length lens → k ≡ min (get_or lens t 0) (length ls - i)
-    → o₁ ≡ pushes o (trace_lines t 0 (take j (drop i ls))) → j ≡ k → pushes o (lines t (drop t lens) (drop i ls)) ≡ v
-    → pushes o₁ (lines (t + 1) (drop (t + 1) lens) (drop (i + k) ls)) ≡ v
+-- The next trace: its labels are the first of those that are left.
+pub lines_on : (o o₁ : Out) (lens : List ℕ) (ls : List ℤ) (t k : ℕ) {v : Out} → t < length lens → k ≡ min (get_or lens t 0) (length ls)
+    → o₁ ≡ pushes o (trace_lines t 0 (take k ls)) → pushes o (lines t (drop t lens) ls) ≡ v
+    → pushes o₁ (lines (t + 1) (drop (t + 1) lens) (drop k ls)) ≡ v
 unfolding lines
-lines_on o o₁ lens ls t i k j h m e s p =
+lines_on o o₁ lens ls t k h m e p =
     let n = get_or lens t 0 in
     let d : drop t lens ≡ n ∷ drop (t + 1) lens = rw (add-one t, drop-cons lens t 0 h) in
-    let r : k ≡ min n (length (drop i ls)) = rw (length-drop i ls) m in
-    let a : take j (drop i ls) ≡ take n (drop i ls) = ap (λ (q : ℕ). take q (drop i ls)) (s ∙ r) ∙ take_min n (drop i ls) in
-    let b : drop (i + k) ls ≡ drop n (drop i ls) = sym (drop-drop k i ls) ∙ ap (λ (q : ℕ). drop q (drop i ls)) r ∙ drop_min n (drop i ls) in
-    let w = lines (t + 1) (drop (t + 1) lens) (drop n (drop i ls)) in
-    let q : lines t (drop t lens) (drop i ls) ≡ trace_lines t 0 (take n (drop i ls)) ++ w = rw (d, add-one t) in
-    rw b (and_then o o₁ (pushes o₁ w) (trace_lines t 0 (take n (drop i ls))) w (rw a at e) refl ∙ ap (pushes o) (sym q) ∙ p)
+    let a : take k ls ≡ take n ls = ap (λ (q : ℕ). take q ls) m ∙ take_min n ls in
+    let b : drop k ls ≡ drop n ls = ap (λ (q : ℕ). drop q ls) m ∙ drop_min n ls in
+    let w = lines (t + 1) (drop (t + 1) lens) (drop n ls) in
+    let q : lines t (drop t lens) ls ≡ trace_lines t 0 (take n ls) ++ w = rw (d, add-one t) in
+    rw b (and_then o o₁ (pushes o₁ w) (trace_lines t 0 (take n ls)) w (rw a at e) refl ∙ ap (pushes o) (sym q) ∙ p)
 
 pub lines_end : (o : Out) (lens : List ℕ) (ls : List ℤ) (t : ℕ) {v : Out} → length lens ≤ t → pushes o (lines t (drop t lens) ls) ≡ v → o ≡ v
 unfolding lines pushes

@@ -5,6 +5,8 @@ ghost use Rattle.print.specs.Lines.{digits, decimal};
 ghost use Rattle.print.specs.Steps.{Wrote};
 
 // A slice, and how many of its bytes are written.
+// Kept as it is: no equality is derived, since it holds a slice that is lent to be written, and nobody compares two.
+// It is written out where it is made, three times: a slice, and nothing used.
 #[derive(Debug, Drop)]
 pub struct Output<'a> {
     pub bytes: &'a mut [u8],

@@ -16,6 +16,8 @@ impl Output<'_> {
     }
 
     // A line `trace fix label`.
+    // Kept as it is: three numbers, here and in `put_fix` and `put_line` of crate `posting`: a struct of them would be made in one loop over the labels of a
+    // trace, and taken apart one or two calls further on.
     fn put_line(&mut self, t: u64, f: u64, l: i32)
         ensures { Wrote self.old self.new (Lines·line t f l) }
     {
@@ -37,14 +39,15 @@ impl Output<'_> {
     }
 
     // The lines of all traces. Where there are fewer labels than the lengths say, those that are there.
+    // Kept as it is, beside `put_lines` of crate `posting`: the line there says why.
     pub fn put_lines(&mut self, lens: &[u32], labels: &[i32])
         ensures { Wrote self.old self.new (Lines·lines 0 lens.now labels.now) }
     {
-        let mut i = 0;
+        let mut rest = labels;
         for (t, &n) in lens.iter().enumerate() {
-            let end = i + (n as usize).min(labels.len() - i);
-            self.put_trace(t as u64, &labels[i..end]);
-            i = end;
+            let (part, behind) = rest.split_at((n as usize).min(rest.len()));
+            self.put_trace(t as u64, part);
+            rest = behind;
         }
     }
 }

@@ -11,6 +11,9 @@ use reply::Form;
 use reply::arrays::Arrays;
 use std::io::Read;
 
+// Kept as it is: what is printed goes by `io` and a stream's number. `rt.print` and `print!` are for what has `Display`, which bytes that may be cut short
+// have not; `write_all` of `rt.stdout()` and of `rt.stderr()` would take a handle of each stream through `run` and `write_answer`, and answer a Result to
+// match, where `io::write_all` tells by a bool.
 const STDOUT_FILENO: i32 = 1;
 
 const STDERR_FILENO: i32 = 2;
@@ -23,20 +26,27 @@ pub fn answer_input<R: Read>(stdin: &mut R, form: Form, out: &mut [u8]) -> usize
     let mut read = Arrays::<768>::filled(0.0, 0, 0);
     let p = input::read_input(
         stdin,
-        &mut read.xs,
-        &mut read.ys,
-        &mut read.times,
-        &mut read.marks,
+        &mut read.fixes.xs,
+        &mut read.fixes.ys,
+        &mut read.fixes.times,
+        &mut read.fixes.marks,
         &mut read.lens,
     );
     reply::answer(form, p, read.tracks(), out)
 }
 
-// Writes the answer, and says so where that fails. That it asks for an answer is for a program's `main`, which can hand it nothing else.
+// Writes the answer, and says so where that fails. That it asks for an answer is for `run`, which can hand it nothing else.
 pub fn write_answer(answer: &[u8])
     requires { (form : Form-as-Form) × Answer form answer.now }
 {
     if !io::write_all(STDOUT_FILENO, answer) {
         io::write_all(STDERR_FILENO, b"the answer could not be written\n");
     }
+}
+
+// A program whose answers have this form: it reads standard input, and writes the answer.
+pub fn run<R: Read>(stdin: &mut R, form: Form) {
+    let mut out = [0u8; 49152];
+    let n = answer_input(stdin, form, &mut out);
+    write_answer(&out[..n]);
 }

@@ -1,5 +1,5 @@
 -- The records taken apart: what all steps come to, and what the slices then hold.
-use mathlib.Core.Path.{◌≡◌, sym, ap, ap₂, ◌∙◌}
+use mathlib.Core.Path.{◌≡◌, sym, ap, ap₂, ◌∙◌, subst}
 use mathlib.Core.List.{List, ◌++◌, map}
 use Prim.Native.Nat.{ℕ, ◌+◌, ◌*◌, ◌<◌, ◌≤◌}
 use native.Mathlib.Nat.{zero-add}
@@ -117,3 +117,12 @@ module _ (fs : List FixRecord) (columns : List Float) (enough : 3 * length fs �
     where
       twice : 2 * length fs ≡ length fs + length fs
       twice = omega arith
+
+-- ---- after the last record
+
+pub columns_end : (i : ℕ) (fs : List FixRecord) (l end : List Float) → length end ≡ length l → 3 * length fs ≤ length l → length fs ≤ i → i ≤ length fs → Filled (length fs) i fs l end
+    → end ≡ overlay (xs_of fs ++ (ys_of fs ++ times_of fs)) l
+columns_end i fs l end same enough h g a = columns_taken fs l end same enough (subst (λ (j : ℕ). Filled (length fs) j fs l end) (omega arith) a)
+
+pub marks_end : (i : ℕ) (fs : List FixRecord) (old m : List ℕ) → length fs ≤ length m → length fs ≤ i → i ≤ length fs → Marked i fs old m → m ≡ overlay (marks_of fs) old
+marks_end i fs old m enough h g a = marks_taken fs old m enough (subst (λ (j : ℕ). Marked j fs old m) (omega arith) a)

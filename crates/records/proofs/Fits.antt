@@ -5,14 +5,12 @@ use mathlib.Core.List.{List, map}
 use Prim.Native.Nat.{ℕ, zero, suc, ◌+◌, ◌-◌, ◌*◌, ◌<◌, ◌≤◌}
 use native.Mathlib.Omega.{arith}
 use lib.IntN.{ℤ}
-use lib.ListN.{length, take, length-take}
-use lib.Seq.{take_all, length-take-le}
+use lib.ListN.{length, take}
 use lib.Ieee.{Float}
 use Rattle.lists.specs.Lists.{overlay}
 use Rattle.distance.specs.Distance.{euclidean}
 use Rattle.trace.specs.Trace.{Fix, fixes, traces}
-use Rattle.std.specs.Prelude.{Result, Ok, Err}
-use Rattle.std.specs.Result.{result_unwrap_or}
+use Rattle.std.specs.Prelude.{Ok, Err}
 use Rattle.settings.specs.declared.config.Config.{Config}
 use Rattle.settings.specs.declared.refusal.Refusal.{Refusal}
 use Rattle.settings.specs.Checks.{Checked, is_refused, first_of}
@@ -26,13 +24,12 @@ use Rattle.lists.proofs.Parts.{lent}
 use Rattle.infostop.proofs.Ending.{refused_ends, no_kept}
 use Rattle.infostop.proofs.Promises.{both_accepted, free_work}
 use Rattle.records.specs.declared.FixRecord.{FixRecord}
-use Rattle.records.specs.declared.judge.Judge.{Judge}
 use Rattle.records.specs.Records.{fix_of, xs_of, ys_of, times_of, marks_of, room_for, work_floats, fit_records, taken, marked, outcome_of, RecordsFitted}
-use Rattle.records.specs.StepsJudge.{started, run, checks_from, check_records, verdict_by}
+use Rattle.records.specs.StepsJudge.{check_records}
 use Rattle.records.specs.Steps.{Ready, ReadyFitted}
 use Rattle.records.proofs.Steps.{room_columns, room_marks}
 use Rattle.records.proofs.Columns.{in_row, columns_length, marks_length, columns_held, marks_held, xs_held, ys_held, times_held}
-use Rattle.records.proofs.Judged.{fixes_are, checks_told}
+use Rattle.records.proofs.Judged.{fixes_are}
 use Rattle.records.proofs.Early.{early, early_records}
 
 -- ---- the outcome by the checks
@@ -132,18 +129,6 @@ module _ (m : Infostop) (fs : List FixRecord) (lens : List ℕ) (old : List ℤ)
       (rw roomy)
       p
 
--- ---- what the verdict says of the checks
-
-verdict_refused : (d : Checked) (n : ℕ) (e : Refusal) → verdict_by d n ≡ Err e → d ≡ Err e
-unfolding verdict_by
-verdict_refused (Ok u) n e h = cc
-verdict_refused (Err e') n e h = cc
-
-verdict_passed : (d : Checked) (n k : ℕ) → verdict_by d n ≡ Ok k → (d ≡ Ok tt) × (k ≡ n)
-unfolding verdict_by
-verdict_passed (Ok u) n k h = (refl, cc)
-verdict_passed (Err e) n k h = cc
-
 -- ---- how all ends
 module _ (m : Infostop) (fs : List FixRecord) (lens : List ℕ) (old : List ℤ) (cap : ℕ) (columns : List Float) (marks : List ℕ) (floats : List Float)
     (words : List ℤ) where
@@ -153,115 +138,63 @@ module _ (m : Infostop) (fs : List FixRecord) (lens : List ℕ) (old : List ℤ)
   abbrev o₁ : Outcome
   o₁ = outcome_of m fs lens cap old columns marks floats words
 
-  -- What the code decides, by what its machine says of the records.
-  abbrev pub Decides : Judge → Result ℕ Refusal → Type 0
-  Decides s v =
-      (s ≡ run lens (started lens) fs)
-      × (v ≡ verdict_by (checks_from m.config s (length fs) lens (length old) cap (length columns) (length marks) (length floats) (length words)) (length fs))
-
-  decides : (s : Judge) {v : Result ℕ Refusal} → Decides s v → v ≡ verdict_by d (length fs)
-  decides s h =
-      h.1 ∙ ap (λ (z : Judge). verdict_by (checks_from m.config z (length fs) lens (length old) cap (length columns) (length marks) (length floats) (length words)) (length fs)) h.0
-      ∙ ap (λ (z : Checked). verdict_by z (length fs)) (checks_told m.config fs lens (length old) cap (length columns) (length marks) (length floats) (length words))
-
   keeps : (z : Checked) → d ≡ z → keeps_work o₁ ≡ is_refused z
   keeps z h = keeps_early m.config fs lens (length old) cap (length columns) (length marks) (length floats) (length words) z h
 
-  -- k records are taken apart: all where the checks pass, else none.
-  module _ (s : Judge) (k : ℕ) {v : Result ℕ Refusal} (h : Decides s v) (u : k ≡ result_unwrap_or v 0) where
-    none : (e : Refusal) → v ≡ Err e → k ≡ 0
-    none e q = rw q at u
+  -- A refusal leaves all as it was.
+  pub end_refused : {v : Checked} → v ≡ d → (e : Refusal) → v ≡ Err e → {columns' : List Float} {marks' : List ℕ} → columns' ≡ columns → marks' ≡ marks
+      → RecordsFitted m fs lens cap old columns marks floats words (record { answer = Err e; model = m }) old columns' marks' floats words
+  unfolding taken marked
+  end_refused h e q a b =
+      let r : d ≡ Err e = sym h ∙ q in (
+        record {
+          ended = refused_ends m old o₁ e (outcome_refused m.config fs lens (length old) cap (length columns) (length marks) (length floats) (length words) e r);
+          work = λ z. (refl, refl);
+          demand3 = λ k. λ n. λ z. no_kept _ _ _ _ (sym (ap told_by z));
+        },
+        rw (keeps (Err e) r) a,
+        rw (keeps (Err e) r) b,
+      )
 
-    passed : (n : ℕ) → v ≡ Ok n → (d ≡ Ok tt) × (k ≡ length fs)
-    passed n q =
-        let p = verdict_passed d (length fs) n (sym (decides s h) ∙ q) in
-        let a : k ≡ n = rw q at u in
-        (p.0, a ∙ p.1)
+  -- The checks pass, so all records are taken apart.
+  module _ {v : Checked} (h : v ≡ d) (q : v ≡ Ok tt) where
+    passed : d ≡ Ok tt
+    passed = sym h ∙ q
 
-    roomy₁ : (n : ℕ) → v ≡ Ok n → room_for (length fs) (length columns) (length marks) ≡ true
-    roomy₁ n q = has_room m.config fs lens (length old) cap (length columns) (length marks) (length floats) (length words) (passed n q).0
+    roomy₁ : room_for (length fs) (length columns) (length marks) ≡ true
+    roomy₁ = has_room m.config fs lens (length old) cap (length columns) (length marks) (length floats) (length words) passed
 
-    few : k ≤ length fs
-    few = go v refl
-      where
-        go : (r : Result ℕ Refusal) → v ≡ r → k ≤ length fs
-        go (Ok n) q = let e = (passed n q).1 in omega arith
-        go (Err e) q = let z = none e q in omega arith
+    -- There is room for them,
+    pub room_first : (3 * length fs ≤ length columns) × (length fs ≤ length marks)
+    room_first = (room_columns (length fs) (length columns) (length marks) roomy₁, room_marks (length fs) (length columns) (length marks) roomy₁)
 
-    pub part_long : k ≡ length (take k fs)
-    part_long = sym (length-take-le k fs few)
+    module _ (columns' : List Float) (marks' : List ℕ) (a : columns' ≡ overlay (in_row fs) columns) (b : marks' ≡ overlay (marks_of fs) marks) where
+      long : length columns' ≡ length columns
+      long = ap length a ∙ columns_length fs columns room_first.0
 
-    -- There is room to take them apart,
-    pub room_first : (3 * length (take k fs) ≤ length columns) × (length (take k fs) ≤ length marks)
-    room_first = go v refl
-      where
-        go : (r : Result ℕ Refusal) → v ≡ r → (3 * length (take k fs) ≤ length columns) × (length (take k fs) ≤ length marks)
-        go (Ok n) q =
-            let a = room_columns (length fs) (length columns) (length marks) (roomy₁ n q) in
-            let b = room_marks (length fs) (length columns) (length marks) (roomy₁ n q) in
-            let c = length-take k fs in
-            (omega arith, omega arith)
-        go (Err e) q =
-            let z = none e q in
-            let c = length-take k fs in
-            (omega arith, omega arith)
+      many : length marks' ≡ length marks
+      many = ap length b ∙ marks_length fs marks room_first.1
 
-    -- and for those that are.
-    pub room_then : (n : ℕ) → v ≡ Ok n → (columns' : List Float) (marks' : List ℕ) → length columns' ≡ length columns → length marks' ≡ length marks
-        → (3 * k ≤ length columns') × (k ≤ length marks')
-    room_then n q columns' marks' a b =
-        let p = room_columns (length fs) (length columns) (length marks) (roomy₁ n q) in
-        let r = room_marks (length fs) (length columns) (length marks) (roomy₁ n q) in
-        let c = (passed n q).1 in
-        (omega arith, omega arith)
+      -- and then they are there.
+      pub room_then : (3 * length fs ≤ length columns') × (length fs ≤ length marks')
+      room_then = (omega (arith, long, room_first.0), omega (arith, many, room_first.1))
 
-    module _ (columns' : List Float) (marks' : List ℕ) (a : columns' ≡ overlay (in_row (take k fs)) columns) (b : marks' ≡ overlay (marks_of (take k fs)) marks) where
-      -- A refusal leaves all as it was.
-      pub end_refused : (e : Refusal) → v ≡ Err e
-          → RecordsFitted m fs lens cap old columns marks floats words (record { answer = Err e; model = m }) old columns' marks' floats words
-      unfolding taken marked overlay
-      end_refused e q =
-          let r : d ≡ Err e = verdict_refused d (length fs) e (sym (decides s h) ∙ q) in (
-            record {
-              ended = refused_ends m old o₁ e (outcome_refused m.config fs lens (length old) cap (length columns) (length marks) (length floats) (length words) e r);
-              work = λ z. (refl, refl);
-              demand3 = λ k. λ n. λ z. no_kept _ _ _ _ (sym (ap told_by z));
-            },
-            rw (keeps (Err e) r) (rw (none e q) at a),
-            rw (keeps (Err e) r) (rw (none e q) at b),
-          )
-
-      pub end_taken : (n : ℕ) → v ≡ Ok n → (r : Fit) (labels : List ℤ) (floats' : List Float) (words' : List ℤ)
-          → ReadyFitted m k lens cap old columns' marks' floats words r labels floats' words'
+      pub end_taken : (r : Fit) (labels : List ℤ) (floats' : List Float) (words' : List ℤ)
+          → ReadyFitted m (length fs) lens cap old columns' marks' floats words r labels floats' words'
           → RecordsFitted m fs lens cap old columns marks floats words r labels columns' marks' floats' words'
       unfolding taken marked
-      end_taken n q r labels floats' words' f = (
+      end_taken r labels floats' words' f = (
         subst (λ (j : ℕ). promised j (length marks)) long (subst (λ (j : ℕ). promised (length columns') j) many (f fs is_ready)),
-        rw (keeps (Ok tt) (passed n q).0) all_columns,
-        rw (keeps (Ok tt) (passed n q).0) all_marks,
+        rw (keeps (Ok tt) passed) a,
+        rw (keeps (Ok tt) passed) b,
       )
         where
-          all : take k fs ≡ fs
-          all = let e = (passed n q).1 in take_all k fs (omega arith)
-
-          all_columns : columns' ≡ overlay (in_row fs) columns
-          all_columns = rw all at a
-
-          all_marks : marks' ≡ overlay (marks_of fs) marks
-          all_marks = rw all at b
-
-          long : length columns' ≡ length columns
-          long = ap length all_columns ∙ columns_length fs columns (room_columns (length fs) (length columns) (length marks) (roomy₁ n q))
-
-          many : length marks' ≡ length marks
-          many = ap length all_marks ∙ marks_length fs marks (room_marks (length fs) (length columns) (length marks) (roomy₁ n q))
-
-          is_ready : Ready m.config fs lens (length old) cap (length floats) (length words) k columns' marks'
+          is_ready : Ready m.config fs lens (length old) cap (length floats) (length words) (length fs) columns' marks'
           is_ready = record {
-            passes = rw (long, many) (passed n q).0;
-            count = (passed n q).1;
-            columns_hold = ap (take (3 * length fs)) all_columns ∙ columns_held fs columns;
-            marks_hold = ap (take (length fs)) all_marks ∙ marks_held fs marks;
+            passes = rw (long, many) passed;
+            count = refl;
+            columns_hold = ap (take (3 * length fs)) a ∙ columns_held fs columns;
+            marks_hold = ap (take (length fs)) b ∙ marks_held fs marks;
           }
 
           -- The promise where columns and marks have these lengths.

@@ -1,14 +1,13 @@
 -- Serves the contracts of this crate's own functions; no public contract reaches it.
 -- The machine that judges records one by one, as the code does, and the verdict on them. proofs/Judged.antt joins it to the checks of crate
 -- `checks`. Definitions only.
-use Rattle.std.specs.Prelude.{ℕ, suc, ◌-◌, true, ◌&&◌, not, cond, List, [], ◌∷◌, eqb, leb, ltb, length, get_or, Result, Ok, Err}
-use Rattle.float.specs.Binary64.{zero64}
-use Rattle.trace.specs.Trace.{time_of, read_time}
+use Rattle.std.specs.Prelude.{ℕ, suc, ◌-◌, true, ◌&&◌, not, cond, List, [], ◌∷◌, eqb, leb, ltb, length, get_or, Float, Option, None, Ok}
+use Rattle.std.specs.Bool.{then_some}
 use Rattle.settings.specs.declared.config.Config.{Config}
-use Rattle.settings.specs.declared.refusal.Refusal.{Refusal}
 use Rattle.settings.specs.declared.refusal.Refusal.TheVariants.{EmptyTrace, PartlyTimed, TimeOrder, TimeMark}
 use Rattle.settings.specs.Checks.{Checked, refuse_if, first_of, in_turn}
 use Rattle.settings.specs.Settings.{check_config}
+use Rattle.checks.specs.Steps.{given}
 use Rattle.checks.specs.Traces.{above, check_fix, check_fix_size}
 use Rattle.checks.specs.Tracks.{check_lengths, check_counts, check_work, check_tracks}
 use Rattle.records.specs.declared.FixRecord.{FixRecord}
@@ -18,18 +17,21 @@ use Rattle.records.specs.Records.{fix_of, xs_of, ys_of, times_of, marks_of, work
 
 -- ---- the times of the open trace
 
+-- The time of a record, where its mark is 1.
+abbrev pub marked_time : FixRecord → Option Float
+marked_time f = then_some (eqb f.mark 1) f.time
+
 -- Before the first fix.
 unfoldable pub no_times : Times
-no_times = record { timed = true; untimed = true; ordered = true; mark = 0; time = zero64 }
+no_times = record { timed = true; untimed = true; ordered = true; last = None }
 
 -- After the next fix.
 unfoldable pub with_time : Times → FixRecord → Times
 with_time t f = record {
   timed = t.timed && eqb f.mark 1;
   untimed = t.untimed && not (eqb f.mark 1);
-  ordered = t.ordered && not (above (time_of t.mark t.time) (time_of f.mark f.time));
-  mark = f.mark;
-  time = read_time f.mark f.time;
+  ordered = t.ordered && not (above (given t.last) (given (marked_time f)));
+  last = marked_time f;
 }
 
 -- 14, 15.
@@ -99,8 +101,3 @@ checks_from c s n lens labels cap columns marks floats words =
 unfoldable pub check_records : Config → List FixRecord → List ℕ → ℕ → ℕ → ℕ → ℕ → ℕ → ℕ → Checked
 check_records c fs lens labels cap columns marks floats words =
     first_of (check_config c) (check_tracks (xs_of fs) (ys_of fs) (times_of fs) (marks_of fs) lens labels cap (work_floats (length fs) columns marks floats) words)
-
--- How many of n records are to be taken apart, or the refusal.
-unfoldable pub verdict_by : Checked → ℕ → Result ℕ Refusal
-verdict_by (Ok x) n = Ok n
-verdict_by (Err e) n = Err e

@@ -1,22 +1,20 @@
 // The checks of records before anything is written: a machine that takes them one by one, and what it says of them at the end, in the rules' order.
 ghost use Rattle.std.specs.Prelude.{◌≡◌, eqb};
-ghost use Rattle.trace.specs.Trace.{read_time};
 ghost use Rattle.settings.specs.declared.refusal.Refusal.TheVariants.{EmptyTrace};
 ghost use Rattle.settings.specs.Checks.{refuse_if};
-ghost use Rattle.records.specs.StepsJudge.{no_times, with_time, times_checked, begun, passed, ended, next, started, stepped, contents};
+ghost use Rattle.trace.specs.Trace.{read_time};
+ghost use Rattle.records.specs.StepsJudge.{marked_time, no_times, with_time, times_checked, begun, passed, ended, next, started, stepped, contents};
 
 use crate::FixRecord;
 use settings::refusal::Refusal;
 
-// The times of the open trace so far: whether all are there, none is, and each is at most the next; the last mark and time.
-// Kept as it is: the last time with its mark, as `above` of crate `checks` takes them; the line there says why it is no `Option<f64>`.
+// The times of the open trace so far: whether all are there, none is, and each is at most the next; the time of the last fix.
 #[derive(Clone, Copy, Debug, PartialEq)]
 pub struct Times {
     pub timed: bool,
     pub untimed: bool,
     pub ordered: bool,
-    pub mark: u8,
-    pub time: f64,
+    pub last: Option<f64>,
 }
 
 // What the records so far say. marks: each mark is 0 or 1. first: the first refusal of 11 to 15. far: the first of 16. trace: the open
@@ -31,13 +29,23 @@ pub struct Judge {
     pub times: Times,
 }
 
-// The time beside a mark, 0.0 where there is none.
-// Kept as it is: `time_at` of crate `checks` takes slice and index, so as not to read a value beside another mark; here the value comes with the record.
-#[tactic(auto, unfolding(trace::specs::Trace::read_time))]
-pub fn read_time(mark: u8, time: f64) -> f64
-    ensures { result ≡ read_time mark time }
-{
-    if mark == 1 { time } else { 0.0 }
+impl FixRecord {
+    // The time, where the mark is 1.
+    // Kept as it is: beside the function of `checks` for the time of a fix in columns, which takes them and a place, so as not to read the value beside
+    // another mark (docs/RULES.md, "Time marks"). A record goes by value, with its time.
+    fn marked_time(self) -> Option<f64>
+        ensures { result ≡ marked_time self }
+    {
+        (self.mark == 1).then_some(self.time)
+    }
+
+    // The time for the column of times, 0.0 where there is none.
+    #[tactic(auto, unfolding(trace::specs::Trace::read_time))]
+    pub fn read_time(self) -> f64
+        ensures { result ≡ read_time self.mark self.time }
+    {
+        self.marked_time().unwrap_or(0.0)
+    }
 }
 
 impl Times {
@@ -50,8 +58,7 @@ impl Times {
             timed: true,
             untimed: true,
             ordered: true,
-            mark: 0,
-            time: 0.0,
+            last: None,
         }
     }
 
@@ -60,12 +67,12 @@ impl Times {
     fn with(self, f: FixRecord) -> Times
         ensures { result ≡ with_time self f }
     {
+        let time = f.marked_time();
         Times {
             timed: self.timed && f.mark == 1,
             untimed: self.untimed && f.mark != 1,
-            ordered: self.ordered && !checks::fix::above(self.mark, self.time, f.mark, f.time),
-            mark: f.mark,
-            time: read_time(f.mark, f.time),
+            ordered: self.ordered && !checks::fix::above(self.last, time),
+            last: time,
         }
     }
 
@@ -111,7 +118,7 @@ impl Judge {
     }
 
     // A fix of the open trace: 12, 13, and 16 apart.
-    #[tactic(auto, using(settings::proofs::Turns::first_is), unfolding(crate::specs::StepsJudge::passed))]
+    #[tactic(auto, using(settings::proofs::Turns::first_is, crate::proofs::OpenTrace::given_marked), unfolding(crate::specs::StepsJudge::passed))]
     fn pass(self, f: FixRecord) -> Judge
         ensures { result ≡ passed f self }
     {
@@ -120,7 +127,7 @@ impl Judge {
             marks: self.marks && f.mark <= 1,
             first: self
                 .first
-                .and(checks::fix::check_fix(k, f.at, f.mark, f.time)),
+                .and(checks::fix::check_fix(k, f.at, f.marked_time())),
             far: self.far.and(checks::fix::check_fix_size(k, f.at)),
             left: self.left.saturating_sub(1),
             times: self.times.with(f),
@@ -144,11 +151,11 @@ impl Judge {
     fn next(self, lens: &[u32]) -> Judge
         ensures { result ≡ next lens.now self }
     {
-        let k = self.trace;
-        if k < lens.len() && k + 1 < lens.len() {
-            return self.begin(k + 1, lens[k + 1] as usize);
+        let k = self.trace.saturating_add(1);
+        match lens.get(k) {
+            Some(&n) => self.begin(k, n as usize),
+            None => self,
         }
-        self
     }
 
     // Before the first record.
@@ -164,8 +171,8 @@ impl Judge {
             left: 0,
             times: Times::none(),
         };
-        let n = if lens.is_empty() { 0 } else { lens[0] };
-        blank.begin(0, n as usize)
+        let n = lens.first().map_or(0, |&n| n as usize);
+        blank.begin(0, n)
     }
 
     // One record.

@@ -5,14 +5,15 @@
 ghost use Rattle.std.specs.Prelude.{◌≡◌, ◌≤◌, ◌*◌, ◌++◌, length, Err};
 ghost use Rattle.lists.specs.Lists.{overlay};
 ghost use Rattle.records.specs.Records.{xs_of, ys_of, times_of, marks_of, RecordsFitted};
-ghost use Rattle.records.specs.StepsJudge.{started, run};
+ghost use Rattle.records.specs.StepsJudge.{started, run, check_records};
 ghost use Rattle.records.specs.Steps.{ReadyFitted};
 
-use crate::judge::{Judge, read_time};
+use crate::judge::Judge;
 use checks::Room;
 use distance::Point;
 use infostop::answer::Fit;
 use infostop::model::Infostop;
+use settings::config::Config;
 use settings::refusal::Refusal;
 use trace::Tracks;
 
@@ -41,6 +42,7 @@ fn judge_records(fixes: &[FixRecord], lens: &[u32]) -> Judge
 }
 
 // All records into the front of the columns and of the marks.
+#[tactic(auto, using(crate::proofs::Columns::columns_end, crate::proofs::Columns::marks_end))]
 fn take_apart(fixes: &[FixRecord], columns: &mut [f64], marks: &mut [u8])
     requires { (3 * length fixes.now ≤ length columns.old) × (length fixes.now ≤ length marks.old) }
     ensures { (columns.new ≡ overlay (xs_of fixes.now ++ (ys_of fixes.now ++ times_of fixes.now)) columns.old)
@@ -50,9 +52,25 @@ fn take_apart(fixes: &[FixRecord], columns: &mut [f64], marks: &mut [u8])
     for (i, &f) in fixes.iter().enumerate() {
         columns[i] = f.at.x;
         columns[n + i] = f.at.y;
-        columns[2 * n + i] = read_time(f.mark, f.time);
+        columns[2 * n + i] = f.read_time();
         marks[i] = f.mark;
     }
+}
+
+// Whether the records pass, or the first refusal. Columns and marks are told by their lengths.
+#[tactic(auto, using(crate::proofs::Judged::checks_told))]
+fn check_records(
+    config: Config,
+    fixes: &[FixRecord],
+    lens: &[u32],
+    columns: usize,
+    marks: usize,
+    room: Room,
+) -> Result<(), Refusal>
+    ensures { result ≡ check_records config fixes.now lens.now room.labels room.places columns marks room.floats room.words }
+{
+    let judge = judge_records(fixes, lens);
+    verdict::decide(config, judge, fixes.len(), lens, columns, marks, room)
 }
 
 fn refuse(model: Infostop, e: Refusal) -> Fit
@@ -92,6 +110,7 @@ fn fit_taken(
 // One of the two that is shorter is 10. A refusal other than 18 and 19 leaves all as it was.
 // Kept as it is: each slice is a parameter; a struct of those that are written would need, of each function that it is lent to, a promise that it still
 // holds the same slices, and the callers lend them one by one.
+#[tactic(auto, using(crate::proofs::Fits::room_first, crate::proofs::Fits::room_then))]
 pub fn fit_records(
     model: Infostop,
     fixes: &[FixRecord],
@@ -113,22 +132,14 @@ pub fn fit_records(
         floats: floats.len(),
         words: words.len(),
     };
-    let decided = verdict::decide(
-        model.config,
-        judge_records(fixes, lens),
-        fixes.len(),
-        lens,
-        columns.len(),
-        marks.len(),
-        room,
-    );
-    // Where they are refused none is taken apart, and the slices stay as they were.
-    let n = decided.unwrap_or(0);
-    take_apart(&fixes[..n], columns, marks);
-    match decided {
-        Ok(_) => fit_taken(
-            model, n, lens, labels, places, columns, marks, floats, words,
-        ),
+    let n = fixes.len();
+    match check_records(model.config, fixes, lens, columns.len(), marks.len(), room) {
+        Ok(()) => {
+            take_apart(fixes, columns, marks);
+            fit_taken(
+                model, n, lens, labels, places, columns, marks, floats, words,
+            )
+        }
         Err(e) => refuse(model, e),
     }
 }

@@ -1,4 +1,3 @@
 -- Lemmas that belong to no one function.
 pub mod Digits
-pub mod Bits
 pub mod Past

@@ -1,6 +1,7 @@
 // For the programs that replay recorded answers: lists of cases read, as unsigned decimal numbers and texts, and answers printed.
-// Kept as it is: a list is read into an array of fixed size, since the project takes no heap; and what is printed goes piece by piece through `io`,
-// since `write!` into a buffer of fixed size would have to answer for a line that is longer.
+// Kept as it is: a list is read into an array of fixed size, since the project takes no heap; and what is printed goes piece by piece through `io`:
+// `write!` into a buffer of fixed size would have to answer for a line that is longer, and `print!` takes the runtime, or its handle `rt.stdout()`, and
+// answers a Result, which every function that prints would have to be lent and to hand on.
 #![tactic(auto)]
 
 ghost use Rattle.std.specs.Prelude.{◌≡◌, ◌+◌, not, ◌≤◌, ◌<◌, length, take, drop, replicate, IfSome, IsNone};
@@ -31,7 +32,7 @@ pub struct Numbers<'a> {
     pub at: usize,
 }
 
-// n with the digit b after it, or 0 where that takes more than 64 bits.
+// n with the digit b after it, or 0 where that would take more than 64 bits.
 #[tactic(auto, unfolding(crate::specs::Numbers::with_digit))]
 fn with_digit(n: u64, b: u8) -> u64
     ensures { result ≡ with_digit n b }
@@ -81,7 +82,8 @@ fn text_at(list: &[u8], at: usize, n: usize) -> Option<&[u8]>
 }
 
 impl<'a> Numbers<'a> {
-    // The next number: 0 at the end of the text, or where it takes more than 64 bits.
+    // The next number: 0 at the end of the text. A digit with which it would take more than 64 bits sets it back to 0.
+    // Kept as it is: 0 and no `Option` at the end of the text, since the lists are whole, and each of their readers would have to say what None is to it.
     #[tactic(auto, using(crate::proofs::Digits::before_is, crate::proofs::Digits::digits_is, crate::proofs::Digits::value_is), unfolding(crate::specs::Numbers::skip))]
     pub fn next_number(&mut self) -> u64
         ensures value { result ≡ value_at self.old.text.now self.old.at }
@@ -144,28 +146,17 @@ pub fn each_case<F: FnMut(&mut Numbers)>(answer: F)
 }
 
 // The value with these bits; every NaN pattern is NaN.
-// Kept as it is, and so is `bits_of`: `f64::from_bits` asks that a NaN comes by its one pattern, and `to_bits` promises no pattern of a NaN.
-#[tactic(auto, using(crate::proofs::Bits::nan_of_bits, std::proofs::lemmas::Float::not_nan_f64_bits))]
 pub fn float_of_bits(bits: u64) -> f64
     ensures { result ≡ of_bits binary64 bits }
 {
-    if 0x7ff0_0000_0000_0000 < bits % 0x8000_0000_0000_0000 {
-        f64::NAN
-    } else {
-        f64::from_bits(bits)
-    }
+    std::num::f64_from_bits_with_nan(bits)
 }
 
 // The bits of x, of every NaN the same.
-#[tactic(auto, using(crate::proofs::Bits::bits_of_nan))]
 pub fn bits_of(x: f64) -> u64
     ensures { result ≡ to_bits binary64 x }
 {
-    if x.is_nan() {
-        0x7ff8_0000_0000_0000
-    } else {
-        x.to_bits()
-    }
+    std::num::f64_to_bits_with_nan(x)
 }
 
 // Whether all floats are x, bit for bit.
@@ -223,12 +214,28 @@ pub fn print_each<T: Copy, F: Fn(T)>(items: &[T], print: F)
 }
 
 // Prints the bits of x and y of each point, each behind a space.
+// Kept as it is: two slices, here and in `print_places`, and no `Points` of crate `distance`: a report writes into two slices that know nothing of each other.
 pub fn print_points(xs: &[f64], ys: &[f64]) {
     for (&x, &y) in xs.iter().zip(ys) {
         space();
         print_float(x);
         space();
         print_float(y);
+    }
+}
+
+// Prints the number of places, and of each one x, y and the item of `column`.
+pub fn print_places<T: Copy, F: Fn(T)>(xs: &[f64], ys: &[f64], column: &[T], print: F)
+    requires { F.IsAlwaysCallable print }
+{
+    print_number(xs.len() as u64);
+    for ((&x, &y), &item) in xs.iter().zip(ys).zip(column) {
+        space();
+        print_float(x);
+        space();
+        print_float(y);
+        space();
+        print(item);
     }
 }
 

@@ -11,7 +11,8 @@ use replay::Numbers;
 use settings::config::Config;
 use settings::refusal::Refusal;
 
-pub mod fixes;
+pub mod columns;
+pub mod lens;
 
 // Reads `r1 r2 single stay gap size resolution seed`, floats as their bits.
 #[tactic(auto, unfolding(crate::specs::Case::settings_at, crate::specs::Case::float_at, replay::specs::Numbers::number_at, replay::specs::Numbers::skip))]
@@ -31,35 +32,22 @@ pub fn read_settings(list: &mut Numbers) -> Config
     }
 }
 
-// Kept as it is, and so is `mark_of`: no trait of the library names the largest number of a type, so `T::try_from(n).unwrap_or(largest)` for both would
-// have it handed over, and each would be a call of the other's length.
-fn length_of(n: u64) -> u32
-    ensures { result ≡ length_of n }
-{
-    u32::try_from(n).unwrap_or(u32::MAX)
-}
-
-fn mark_of(n: u64) -> u8
-    ensures { result ≡ mark_of n }
-{
-    u8::try_from(n).unwrap_or(u8::MAX)
-}
-
 // Reads a time mark: 255 for every number that is larger.
 pub fn next_mark(list: &mut Numbers) -> u8
     ensures value { result ≡ mark_of (value_at list.old.text.now list.old.at) }
     ensures place { list.new ≡ past list.old 1 }
 {
-    mark_of(list.next_number())
+    u8::try_from(list.next_number()).unwrap_or(u8::MAX)
 }
 
 // Reads as many trace lengths as the slice is long.
+#[tactic(auto, using(crate::proofs::Read::filled_none, replay::proofs::Past::past_none))]
 pub fn read_lens(list: &mut Numbers, lens: &mut [u32])
     ensures read { LensRead list.old.text.now list.old.at lens.old lens.new list.new.at }
     ensures text { list.new.text ≡ list.old.text }
 {
     for len in lens {
-        *len = length_of(list.next_number());
+        *len = u32::try_from(list.next_number()).unwrap_or(u32::MAX);
     }
 }
 
@@ -76,7 +64,8 @@ pub fn fix_count(lens: &[u32]) -> usize
 }
 
 // Reads n fixes, `x y mark time` each, into the slices. What a slice has no room for is passed over.
-// Kept as it is: four slices; a struct of them would need a clause for each one in every function that it is lent to, that it still holds the same slice.
+// Kept as it is: four slices, of any lengths, as the promise of this function has them; `columns::read_columns` reads into a struct that it makes.
+#[tactic(auto, using(crate::proofs::Read::filled_none, replay::proofs::Past::past_none))]
 pub fn read_fixes(
     list: &mut Numbers,
     n: usize,
@@ -98,6 +87,8 @@ pub fn read_fixes(
 }
 
 // Prints the number of the refusal and its trace, or `0 0`.
+// Kept as it is: (0, 0) where there is none, since a list has two numbers for each answer, and no refusal has the number 0. They are for print alone: who
+// asks whether there is a refusal has the `Result`.
 pub fn print_answer<T>(answer: &Result<T, Refusal>) {
     let (number, trace) = match answer {
         Ok(_) => (0, 0),

@@ -9,23 +9,15 @@ ghost use Rattle.std.specs.Prelude.{◌≤◌, length};
 
 use infostop::model::Infostop;
 use replay::{Numbers, STDOUT_FILENO};
-use replay_case::fixes::Fixes;
+use replay_case::lens::Lens;
 use settings::config::Config;
 use trace::{Trace, Tracks};
 
 // The number of places, and x, y and label of each.
 fn print_places(m: Infostop) {
+    let places = m.points();
     replay::space();
-    replay::print_number(m.count as u64);
-    let places = m.xs.iter().zip(&m.ys).zip(&m.labels);
-    for ((&x, &y), &label) in places.take(m.count) {
-        replay::space();
-        replay::print_float(x);
-        replay::space();
-        replay::print_float(y);
-        replay::space();
-        replay::print_label(label);
-    }
+    replay::print_places(places.xs, places.ys, m.labels(), replay::print_label);
 }
 
 // Asks for the label medians of a fitted model, and prints their number and the medians.
@@ -66,15 +58,10 @@ fn print_fit(
     }
 }
 
-// Fits in slices of the lengths that a fit of 512 places asks for; refused settings are printed.
-fn with_work(config: Config, tracks: Tracks)
+// Fits in slices of the lengths that a fit of 512 places asks for.
+fn fit_in_room(model: Infostop, tracks: Tracks)
     requires { length tracks.xs.now ≤ 256 }
 {
-    let made = Infostop::from_config(config);
-    if made.checked.is_err() {
-        replay_case::print_answer(&made.checked);
-        return;
-    }
     let mut labels = [7i32; 256];
     let mut floats = [0.0f64; 263168];
     let mut words = [0i32; 5120];
@@ -82,7 +69,7 @@ fn with_work(config: Config, tracks: Tracks)
     let floats_end = 4 * n + 262144;
     let words_end = 4 * n + 4096;
     print_fit(
-        made.model,
+        model,
         tracks,
         &mut labels[..n],
         &mut floats[0..floats_end],
@@ -90,14 +77,26 @@ fn with_work(config: Config, tracks: Tracks)
     );
 }
 
-// Reads the fixes, and answers. A case with more than 256 fixes is not answered.
+// Makes the model, and fits; refused settings are printed. The arrays stand in a function of their own: here they would be cleared twice a case.
+fn fit_tracks(config: Config, tracks: Tracks)
+    requires { length tracks.xs.now ≤ 256 }
+{
+    let made = Infostop::from_config(config);
+    if made.checked.is_err() {
+        replay_case::print_answer(&made.checked);
+    } else {
+        fit_in_room(made.model, tracks);
+    }
+}
+
+// Reads the fixes, and answers. A case with more than 256 fixes gets `too many fixes`.
 fn with_lens(list: &mut Numbers, config: Config, lens: &[u32]) {
     let n = replay_case::fix_count(lens);
     if 256 < n {
         io::write_all(STDOUT_FILENO, b"too many fixes");
         return;
     }
-    let fixes = Fixes::<256>::read(list, n);
+    let fixes = replay_case::columns::read_columns::<256>(list, n);
     let Trace {
         xs,
         ys,
@@ -111,19 +110,18 @@ fn with_lens(list: &mut Numbers, config: Config, lens: &[u32]) {
         marks,
         lens,
     };
-    with_work(config, tracks);
+    fit_tracks(config, tracks);
 }
 
-// Answers a case. One with more than 256 traces is not answered.
+// Answers a case. One with more than 256 traces gets `too many traces`.
 fn answer(list: &mut Numbers) {
     let config = replay_case::read_settings(list);
     let traces = list.next_size();
-    let mut lens = [0u32; 256];
-    if traces <= lens.len() {
-        replay_case::read_lens(list, &mut lens[..traces]);
-        with_lens(list, config, &lens[..traces]);
-    } else {
-        io::write_all(STDOUT_FILENO, b"too many traces");
+    match Lens::<256>::read(list, traces) {
+        Some(lens) => with_lens(list, config, lens.all()),
+        None => {
+            io::write_all(STDOUT_FILENO, b"too many traces");
+        }
     }
     replay::line_end();
 }

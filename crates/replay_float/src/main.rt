@@ -23,6 +23,7 @@ impl From<u64> for Op {
 }
 
 impl Op {
+    // Kept as it is: an enum and a match. A table of the four functions would be a list of function pointers with a number for each.
     fn apply(self, x: f64) -> f64 {
         match self {
             Op::Sqrt => float::sqrt(x),

@@ -3,10 +3,10 @@
 // Kept as it is: arrays of fixed size, of which a part is lent, since the replay programs take no heap (docs/DECISIONS.md, "No heap").
 #![tactic(auto)]
 
-ghost use Rattle.std.specs.Prelude.{length};
-ghost use Rattle.map_state.specs.Steps.{Rows};
+ghost use Rattle.std.specs.Prelude.{◌≡◌, length};
 
 use infomap::Kept;
+use map_state::WeightTable;
 use replay::Numbers;
 
 // Writes the weight from a to b, of 64 nodes.
@@ -35,11 +35,11 @@ fn print_kept(k: Kept) {
     replay::print_float(k.codelength);
 }
 
-// Groups as many nodes as `labels` is long, and prints the answer.
-fn print_grouping(table: &[f64], labels: &mut [u32], seed: u64)
-    requires { Rows table.now 64 (length labels.old) }
+// Groups the nodes, and prints the answer.
+fn print_grouping(table: WeightTable, labels: &mut [u32], seed: u64)
+    requires { length labels.old ≡ table.n }
 {
-    print_kept(infomap::run_infomap(table, 64, labels, seed));
+    print_kept(infomap::run_infomap(table, labels, seed));
     replay::print_each(labels, |label| replay::print_number(u64::from(label)));
 }
 
@@ -51,7 +51,12 @@ fn answer(list: &mut Numbers) {
     read_links(list, k, &mut table);
     let mut labels = [0u32; 64];
     if n <= labels.len() {
-        print_grouping(&table, &mut labels[..n], seed);
+        let weights = WeightTable {
+            weights: &table,
+            stride: 64,
+            n,
+        };
+        print_grouping(weights, &mut labels[..n], seed);
     }
     replay::line_end();
 }

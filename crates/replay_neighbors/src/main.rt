@@ -5,7 +5,8 @@
 
 ghost use Rattle.std.specs.Prelude.{◌≡◌, ◌*◌, ◌≤◌, length};
 
-use distance::Point;
+use distance::{Point, Points};
+use neighbors::nodes::Nodes;
 use neighbors::places::Places;
 use replay::Numbers;
 
@@ -22,51 +23,31 @@ fn read_medians(list: &mut Numbers, mx: &mut [f64], my: &mut [f64])
     }
 }
 
-// The number of places, and x, y and count of each.
-fn print_places(places: &Places) {
-    replay::print_number(places.len() as u64);
-    for ((&x, &y), &count) in places.xs.iter().zip(places.ys).zip(places.counts) {
-        replay::space();
-        replay::print_float(x);
-        replay::space();
-        replay::print_float(y);
-        replay::space();
-        replay::print_number(u64::from(count));
-    }
-}
-
 // The number of the place of each median; one that has none gets the number of places.
-fn print_place_of(places: &Places, mx: &[f64], my: &[f64]) {
-    for (&x, &y) in mx.iter().zip(my) {
-        let place = neighbors::places::place_of(places.xs, places.ys, Point { x, y });
+fn print_place_of(places: &Places, medians: Points) {
+    for (&x, &y) in medians.xs.iter().zip(medians.ys) {
+        let place = neighbors::places::place_of(places.points(), Point { x, y });
         replay::space();
         replay::print_number(place.unwrap_or(places.len()) as u64);
     }
 }
 
-// The weights of node u to itself and to higher nodes, in the compacted table of k nodes.
-fn row(table: &[f64], k: usize, u: usize) -> &[f64]
-    requires { (k ≤ 128) × (u ≤ 128) }
-{
-    table.get(u * k + u..(u + 1) * k).unwrap_or(&[])
+// The number of the links between k nodes, each of which stands in the table in the row of the lower node, and in that of the other.
+fn count_links(table: &[f64], k: usize) -> usize {
+    table
+        .chunks(k.max(1))
+        .take(k)
+        .enumerate()
+        .map(|(u, row)| row.iter().skip(u).filter(|&&w| 0.0 < w).count())
+        .fold(0usize, |n, links| n.saturating_add(links))
 }
 
-fn count_links(table: &[f64], k: usize) -> usize
-    requires { k ≤ 128 }
-{
-    let mut n = 0usize;
-    for u in 0..k {
-        n = n.saturating_add(row(table, k, u).iter().filter(|&&w| 0.0 < w).count());
-    }
-    n
-}
-
-// The links of a node to higher ones, by place numbers: its weights to itself and to them, and their numbers.
-fn print_row(row: &[f64], nodes: &[u32]) {
-    let Some(&node) = nodes.first() else {
+// The links of node u to higher ones, by place numbers.
+fn print_row(row: &[f64], u: usize, nodes: &[u32]) {
+    let Some(&node) = nodes.get(u) else {
         return;
     };
-    for (&w, &other) in row.iter().zip(nodes) {
+    for (&w, &other) in row.iter().zip(nodes).skip(u) {
         if 0.0 < w {
             replay::space();
             replay::print_number(u64::from(node));
@@ -78,15 +59,13 @@ fn print_row(row: &[f64], nodes: &[u32]) {
     }
 }
 
-// The number of links and the links; the number of nodes and the nodes.
-fn print_links(table: &[f64], nodes: &[u32])
-    requires { length nodes.now ≤ 128 }
-{
+// The number of links and the links, from the compacted table; the number of nodes and the nodes.
+fn print_links(table: &[f64], nodes: &[u32]) {
     let k = nodes.len();
     replay::space();
     replay::print_number(count_links(table, k) as u64);
-    for u in 0..k {
-        print_row(row(table, k, u), &nodes[u..]);
+    for (u, row) in table.chunks(k.max(1)).take(k).enumerate() {
+        print_row(row, u, nodes);
     }
     replay::space();
     replay::print_number(k as u64);
@@ -94,12 +73,17 @@ fn print_links(table: &[f64], nodes: &[u32])
 }
 
 // Finds the nodes of the table of p places, and makes it the table of the nodes; tells how many there are.
+#[tactic(auto, using(crate::proofs::Nodes::few, crate::proofs::Nodes::rise, crate::proofs::Nodes::lent))]
 fn find_nodes(table: &mut [f64], p: usize, nodes: &mut [u32]) -> usize
-    requires { (p ≤ 128) × (p * p ≤ length table.old) × (p ≤ length nodes.old) }
+    requires { (p ≤ 512) × (p * p ≤ length table.old) × (p ≤ length nodes.old) }
     ensures { result ≤ p }
 {
     let k = neighbors::nodes::find_nodes(table, p, nodes);
-    neighbors::nodes::compact(table, p, &nodes[..k]);
+    let found = Nodes {
+        n: p,
+        numbers: &nodes[..k],
+    };
+    neighbors::nodes::compact(table, found);
     k
 }
 
@@ -116,13 +100,14 @@ fn answer_links(places: &Places, r2: f64)
 }
 
 // Prints the answer for medians in order.
-fn print_answer(mx: &[f64], my: &[f64], r2: f64)
-    requires { (length mx.now ≤ 128) × (length my.now ≡ length mx.now) }
+#[tactic(auto, using(distance::proofs::Columns::length_points, crate::proofs::Places::few_places))]
+fn print_answer(medians: Points, r2: f64)
+    requires { length medians.xs.now ≤ 128 }
 {
     let mut xs = [0.0; 128];
     let mut ys = [0.0; 128];
     let mut counts = [0u32; 128];
-    let found = neighbors::places::distinct(mx, my, &mut xs, &mut ys, &mut counts);
+    let found = neighbors::places::distinct(medians, &mut xs, &mut ys, &mut counts);
     if let Some(p) = found
         && p <= MOST
     {
@@ -131,8 +116,13 @@ fn print_answer(mx: &[f64], my: &[f64], r2: f64)
             ys: &ys[..p],
             counts: &counts[..p],
         };
-        print_places(&places);
-        print_place_of(&places, mx, my);
+        replay::print_places(
+            places.xs,
+            places.ys,
+            places.counts,
+            |count| replay::print_number(u64::from(count)),
+        );
+        print_place_of(&places, medians);
         answer_links(&places, r2);
     }
 }
@@ -143,7 +133,11 @@ fn answer(list: &mut Numbers) {
     let mut mx = [0.0; 128];
     let mut my = [0.0; 128];
     read_medians(list, &mut mx[..n], &mut my[..n]);
-    print_answer(&mx[..n], &my[..n], r2);
+    let medians = Points {
+        xs: &mx[..n],
+        ys: &my[..n],
+    };
+    print_answer(medians, r2);
     replay::line_end();
 }
 

@@ -49,10 +49,10 @@ fn print_parsed(t: &[u8]) {
     let mut read = Arrays::<800>::filled(-0.0, 7, 7);
     let parsed = text::parse(
         t,
-        &mut read.xs,
-        &mut read.ys,
-        &mut read.times,
-        &mut read.marks,
+        &mut read.fixes.xs,
+        &mut read.fixes.ys,
+        &mut read.fixes.times,
+        &mut read.fixes.marks,
         &mut read.lens,
     );
     let tracks = read.tracks();

@@ -10,6 +10,7 @@
 ghost use Rattle.std.specs.Prelude.{◌≡◌, length};
 
 use replay::{Numbers, STDOUT_FILENO};
+use replay_case::lens::Lens;
 use settings::refusal::Refusal;
 
 // The length of the output slice, and the part that is printed.
@@ -21,6 +22,7 @@ struct Asked {
 }
 
 // The label that is written as n, which is 2 more; the largest label where n is past it.
+// Kept as it is: no `From`: neither u64 nor i32 is a type of ours to write it for, and the shift by 2 is this list's, and no rule of labels.
 fn label_of(n: u64) -> i32 {
     match n {
         0 => -2,
@@ -66,6 +68,7 @@ fn print_posted(posted: Result<usize, Refusal>, out: &[u8], asked: Asked) {
 }
 
 // The output array. Its length is said, since lending it as a slice asks for it, and it is too long to be counted.
+// Kept as it is, beside `replay::room`: that one is of another size and another byte, and each says its length as a number.
 fn output() -> [u8; 933000]
     ensures { 933000 ≡ length result }
 {
@@ -98,10 +101,8 @@ fn answer(list: &mut Numbers) {
         to: list.next_size(),
     };
     let traces = list.next_size();
-    let mut lens = [0u32; 257];
-    if traces <= lens.len() {
-        replay_case::read_lens(list, &mut lens[..traces]);
-        with_lens(list, &lens[..traces], asked);
+    if let Some(lens) = Lens::<257>::read(list, traces) {
+        with_lens(list, lens.all(), asked);
     }
 }
 

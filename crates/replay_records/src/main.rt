@@ -12,6 +12,7 @@ ghost use Rattle.std.specs.Prelude.{◌≤◌};
 use distance::Point;
 use records::FixRecord;
 use replay::Numbers;
+use replay_case::lens::Lens;
 use settings::config::Config;
 
 // Settings, `places`, the lengths of the slices lent, and the number of traces.
@@ -92,9 +93,7 @@ fn read_record(list: &mut Numbers) -> FixRecord {
 // Answers a case. One for which there is no room gets an empty line.
 fn answer(list: &mut Numbers) {
     let c = read_case(list);
-    let mut lens = [0u32; 257];
-    if c.traces <= lens.len() {
-        replay_case::read_lens(list, &mut lens[..c.traces]);
+    if let Some(lens) = Lens::<257>::read(list, c.traces) {
         let four = [
             read_record(list),
             read_record(list),
@@ -102,7 +101,7 @@ fn answer(list: &mut Numbers) {
             read_record(list),
         ];
         if c.labels <= 8 && c.columns <= 16 && c.marks <= 8 && c.floats <= 64 && c.words <= 64 {
-            print_fit(c, four, &lens[..c.traces]);
+            print_fit(c, four, lens.all());
         }
     }
     replay::line_end();

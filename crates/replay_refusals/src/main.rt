@@ -9,6 +9,7 @@
 
 use infostop::answer::Labelled;
 use replay::Numbers;
+use replay_case::lens::Lens;
 use settings::config::Config;
 use settings::refusal::Refusal;
 use trace::Tracks;
@@ -86,60 +87,29 @@ fn with_work(config: Config, tracks: Tracks, l: Lengths) {
     );
 }
 
-// Reads the fixes into the columns, and answers.
-// Kept as it is: four slices to be written, each of a length of its own, where `Fixes` of crate `replay_case` has one length for all; and in a struct lent
-// by `&mut` each would have to be said to be the caller's still, as is told at `read_fixes` there.
-fn with_fixes(
-    list: &mut Numbers,
-    config: Config,
-    l: Lengths,
-    lens: &[u32],
-    xs: &mut [f64],
-    ys: &mut [f64],
-    times: &mut [f64],
-    marks: &mut [u8],
-) {
-    let n = list.next_size();
-    replay_case::read_fixes(list, n, xs, ys, times, marks);
-    let tracks = Tracks {
-        xs,
-        ys,
-        times,
-        marks,
-        lens,
-    };
-    with_work(config, tracks, l);
-}
-
-// Lends columns of the case's lengths.
+// Reads the fixes, lends columns of the case's lengths, and answers.
 fn with_columns(list: &mut Numbers, config: Config, l: Lengths, lens: &[u32]) {
     if 65537 < l.xs || 65537 < l.ys || 65537 < l.times || 65537 < l.marks {
         return;
     }
-    let mut xs = [0.0f64; 65537];
-    let mut ys = [0.0f64; 65537];
-    let mut times = [0.0f64; 65537];
-    let mut marks = [0u8; 65537];
-    with_fixes(
-        list,
-        config,
-        l,
+    let n = list.next_size();
+    let read = replay_case::columns::read_columns::<65537>(list, n);
+    let tracks = Tracks {
+        xs: &read.xs[..l.xs],
+        ys: &read.ys[..l.ys],
+        times: &read.times[..l.times],
+        marks: &read.marks[..l.marks],
         lens,
-        &mut xs[..l.xs],
-        &mut ys[..l.ys],
-        &mut times[..l.times],
-        &mut marks[..l.marks],
-    );
+    };
+    with_work(config, tracks, l);
 }
 
 // Answers a case. One for which there is no room gets an empty line.
 fn answer(list: &mut Numbers) {
     let config = replay_case::read_settings(list);
     let l = read_lengths(list);
-    if l.traces <= 257 {
-        let mut lens = [0u32; 257];
-        replay_case::read_lens(list, &mut lens[..l.traces]);
-        with_columns(list, config, l, &lens[..l.traces]);
+    if let Some(lens) = Lens::<257>::read(list, l.traces) {
+        with_columns(list, config, l, lens.all());
     }
     replay::line_end();
 }

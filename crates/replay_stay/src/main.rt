@@ -7,7 +7,6 @@ ghost use Rattle.std.specs.Prelude.{length};
 ghost use Rattle.replay_stay.specs.Steps.{Room};
 
 use replay::Numbers;
-use replay_case::fixes::Fixes;
 use settings::config::Config;
 use trace::Trace;
 
@@ -22,7 +21,8 @@ fn print_stays(s: Config, t: Trace, work: &mut [f64], events: &mut [i32])
     }
     replay::print_number(k as u64);
     if k <= 400 {
-        replay::print_points(&work[800..800 + k], &work[1200..1200 + k]);
+        let medians = stay::all::medians(work, 400, k);
+        replay::print_points(medians.xs, medians.ys);
     }
     replay::line_end();
 }
@@ -48,7 +48,7 @@ fn answer(list: &mut Numbers) {
     if 400 < n {
         return;
     }
-    let fixes = Fixes::<400>::read(list, n);
+    let fixes = replay_case::columns::read_columns::<400>(list, n);
     let mut work = [0.0f64; 1600];
     let mut events = [0i32; 400];
     print_stays(settings, fixes.first(n), &mut work, &mut events[..n]);

@@ -14,7 +14,7 @@ ghost use Rattle.std.specs.Prelude.{◌≤◌, length};
 use crate::read::Slice;
 use infostop::model::Infostop;
 use replay::{Numbers, STDOUT_FILENO};
-use replay_case::fixes::Fixes;
+use replay_case::lens::Lens;
 use settings::config::Config;
 use settings::refusal::Refusal;
 use trace::{Trace, Tracks};
@@ -22,7 +22,7 @@ use trace::{Trace, Tracks};
 mod read;
 
 // What the reports are asked: the trace, the length of the output slices, for which there is room, and which slice is short.
-#[derive(Clone, Copy, Debug)]
+#[derive(Clone, Copy, Debug, PartialEq, Eq)]
 struct Asked {
     trace: usize,
     room: usize,
@@ -31,7 +31,7 @@ struct Asked {
 }
 
 // A case: the fixes and the lengths of its traces, and how many fixes and traces are fitted.
-#[derive(Clone, Copy, Debug)]
+#[derive(Clone, Copy, Debug, PartialEq)]
 struct Case<'a, 'b> {
     asked: Asked,
     fixes: Trace<'a>,
@@ -134,7 +134,7 @@ fn print_place_labels(m: Infostop, asked: Asked) {
 
 // The labels 0, 1, 2 and so on.
 fn count_up(labels: &mut [i32]) {
-    for (label, next) in labels.iter_mut().zip(0..1000) {
+    for (label, next) in labels.iter_mut().zip(0..) {
         *label = next;
     }
 }
@@ -198,7 +198,7 @@ fn fit_and_report(config: Config, case: Case) {
     print_all(fitted, case);
 }
 
-// Reads the fixes, and answers. A case with more than 257 fixes, or with more that are fitted than there are, is not answered.
+// Reads the fixes, and answers. A case with more than 257 fixes, or with more that are fitted than there are, gets a line that says so.
 fn with_lens(
     list: &mut Numbers,
     config: Config,
@@ -215,7 +215,7 @@ fn with_lens(
     } else if n < until {
         io::write_all(STDOUT_FILENO, b"too few fixes\n");
     } else {
-        let read = Fixes::<257>::read(list, n);
+        let read = replay_case::columns::read_columns::<257>(list, n);
         let fixes = read.first(n);
         let case = Case {
             asked,
@@ -228,7 +228,8 @@ fn with_lens(
     }
 }
 
-// Answers a case. One for which there is no room is not answered.
+// Answers a case. One for which there is no room, or with fewer traces than are fitted, gets a line that says so: that of traces, where they are too
+// many, before all others.
 fn answer(list: &mut Numbers) {
     let head = read::read_head(list);
     let room = head.room;
@@ -238,16 +239,20 @@ fn answer(list: &mut Numbers) {
         io::write_all(STDOUT_FILENO, b"too few traces\n");
     } else if 8 < room {
         io::write_all(STDOUT_FILENO, b"too much room\n");
-    } else {
+    } else if let Some(lens) = Lens::<257>::read(list, head.traces) {
         let asked = Asked {
             trace: head.trace,
             room,
             short: head.short,
         };
-        let mut lens = [0u32; 257];
-        let traces = &mut lens[..head.traces];
-        replay_case::read_lens(list, traces);
-        with_lens(list, head.config, asked, traces, head.fitted, head.until);
+        with_lens(
+            list,
+            head.config,
+            asked,
+            lens.all(),
+            head.fitted,
+            head.until,
+        );
     }
 }
 

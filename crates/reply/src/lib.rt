@@ -18,7 +18,7 @@ pub mod arrays;
 
 // How labels are printed: a line for each fix, as the program `stops` does, or as a posting sheet, as the program `sheet` does.
 // Kept as it is: an enum with one match (`print`) is today's form of such a switch; a closure in its place would have to be handed from the programs'
-// `main` through `answer_input` to `answer`, and `program_text`, which the theorems on whole programs speak of, would take a function for a name.
+// `main` through `run` and `answer_input` to `answer`, and `program_text`, which the theorems on whole programs speak of, would take a function for a name.
 #[derive(Clone, Copy, Debug, PartialEq, Eq)]
 pub enum Form {
     Lines,
@@ -83,10 +83,10 @@ pub fn reply(form: Form, text: &[u8], out: &mut [u8]) -> usize
     let r = text::feed(
         text::start(),
         text,
-        &mut read.xs,
-        &mut read.ys,
-        &mut read.times,
-        &mut read.marks,
+        &mut read.fixes.xs,
+        &mut read.fixes.ys,
+        &mut read.fixes.times,
+        &mut read.fixes.marks,
         &mut read.lens,
     );
     let p = text::finish(r);

@@ -5,7 +5,8 @@ use Rattle.stay.specs.Ordered.{ordered, median}
 use Rattle.settings.specs.declared.refusal.Refusal.{Refusal}
 use Rattle.settings.specs.Checks.{Checked}
 use Rattle.infostop.specs.declared.model.Infostop.{Infostop}
-use Rattle.reports.specs.Reports.{model_xs, model_ys, model_labels, check_model, report_if, slice_after}
+use Rattle.infostop.specs.ModelPlaces.{model_xs, model_ys, model_labels}
+use Rattle.reports.specs.Reports.{check_model, report_if, slice_after}
 use Rattle.reports.specs.Labels.{labels_in, is_label}
 
 -- One coordinate of each place with the label l, in place order. The places have the labels ks and the coordinates vs.

@@ -1,24 +1,12 @@
 -- Reports on the model: what they check, what they hand back, and how an output slice ends (docs/RULES.md, "When no labels are given" and "Model").
 -- Definitions only.
-use Rattle.std.specs.Prelude.{◌≡◌, ℕ, min, Bool, not, ◌||◌, List, [], ◌∷◌, ltb, ℤ, length, take, Float, Result, Ok, Err}
+use Rattle.std.specs.Prelude.{◌≡◌, ℕ, Bool, not, ◌||◌, List, [], ◌∷◌, ltb, ℤ, length, Float, Result, Ok, Err}
 use Rattle.lists.specs.Lists.{overlay}
 use Rattle.settings.specs.declared.refusal.Refusal.{Refusal}
 use Rattle.settings.specs.declared.refusal.Refusal.TheVariants.{NotFitted, Output}
 use Rattle.settings.specs.Checks.{Checked, refuse_if, in_turn}
 use Rattle.infostop.specs.declared.model.Infostop.{Infostop}
-
--- The model's places stand in front of its arrays of 512, so a count above that means 512. A fit gives no such count; a model made by hand can have it.
-abbrev pub place_count : Infostop → ℕ
-place_count m = min m.count 512
-
-abbrev pub model_xs : Infostop → List Float
-model_xs m = take (place_count m) m.xs
-
-abbrev pub model_ys : Infostop → List Float
-model_ys m = take (place_count m) m.ys
-
-abbrev pub model_labels : Infostop → List ℤ
-model_labels m = take (place_count m) m.labels
+use Rattle.infostop.specs.ModelPlaces.{place_count, model_xs, model_ys, model_labels}
 
 -- "For reports that take the model: 20, then 21."
 unfoldable pub check_model : Bool → Bool → Checked

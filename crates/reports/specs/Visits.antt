@@ -10,7 +10,8 @@ use Rattle.settings.specs.Checks.{Checked, is_refused, in_turn}
 use Rattle.checks.specs.Tracks.{check_report_tracks}
 use Rattle.cluster.specs.FixLabels.{stay_labels}
 use Rattle.infostop.specs.declared.model.Infostop.{Infostop}
-use Rattle.reports.specs.Reports.{place_count, model_xs, model_ys, model_labels, check_model, report_if, slice_after}
+use Rattle.infostop.specs.ModelPlaces.{place_count, model_xs, model_ys, model_labels}
+use Rattle.reports.specs.Reports.{check_model, report_if, slice_after}
 use Rattle.reports.specs.Labels.{labels_in, is_label}
 
 -- The model's places. It keeps no counts of their stays, and none matters here.

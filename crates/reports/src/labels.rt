@@ -4,6 +4,7 @@ ghost use Rattle.lists.specs.Lists.{upto, overlay};
 ghost use Rattle.reports.specs.Labels.{label_end, labels_in, is_label};
 
 // Whether k is the label l.
+#[tactic(auto, using(crate::proofs::Upward::same_label))]
 pub fn is_label(k: i32, l: usize) -> bool
     ensures { result ≡ is_label l k }
 {
@@ -11,6 +12,7 @@ pub fn is_label(k: i32, l: usize) -> bool
 }
 
 // One above a label; 0 for -1.
+#[tactic(auto, using(crate::proofs::Upward::one_above, crate::proofs::Upward::no_end))]
 fn label_end(k: i32) -> usize
     ensures { result ≡ label_end k }
 {
@@ -23,6 +25,7 @@ fn label_end(k: i32) -> usize
 // How many labels there are: one above the highest.
 // Kept as it is: beside `cluster::labels::label_count`, whose labels are u32 and have no -1. One function for both would be this fold over any
 // type of label, and each call would hand over a closure for what is one above a label: no plainer than two folds.
+#[tactic(auto, using(crate::proofs::Upward::labels_folded))]
 pub fn label_count(labels: &[i32]) -> usize
     ensures { result ≡ labels_in labels.now }
 {
@@ -30,14 +33,12 @@ pub fn label_count(labels: &[i32]) -> usize
 }
 
 // f of each label below `count`, in order, to the front of `out`.
-// Kept as it is: a `for` over the labels. Over `out[..count].iter_mut().enumerate()` it would have the label and a reference to write through, in
-// place of the label and an index: no plainer.
 pub fn write_column<T: Copy, F: Fn(usize) -> T>(f: F, count: usize, out: &mut [T])
     requires callable { F.IsAlwaysCallable f }
     requires room { count ≤ length out.old }
     ensures { (h : ℕ → T) → ((l : ℕ) (v : T) → l < count → F.post f l v → v ≡ h l) → out.new ≡ overlay (map h (upto count)) out.old }
 {
-    for l in 0..count {
-        out[l] = f(l);
+    for (l, x) in out[..count].iter_mut().enumerate() {
+        *x = f(l);
     }
 }

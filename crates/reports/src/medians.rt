@@ -12,7 +12,9 @@ use infostop::model::Infostop;
 use settings::refusal::Refusal;
 
 // One coordinate of each place with the label l, in order, in front of `group`. It hands back how many they are.
-// Kept as it is: the group is a part of an array with its length beside it, since the library has no heap.
+// Kept as it is: the group is a part of an array with its length beside it, since the library has no heap; and they are counted beside the loop, since
+// each is inserted behind those before it.
+#[tactic(auto, using(crate::proofs::Gathered::gather_end))]
 fn gather(labels: &[i32], vs: &[f64], l: usize, group: &mut [f64]) -> usize
     requires { (length vs.now ≡ length labels.now) × (length labels.now ≤ length group.old) }
     ensures { (result ≤ length labels.now) × (take result group.new ≡ ordered (with_label l labels.now vs.now)) }
@@ -38,14 +40,14 @@ fn label_median(labels: &[i32], vs: &[f64], l: usize) -> f64
 }
 
 // Writes the median of each label's places, x and y apart, and hands back the number of labels.
+#[tactic(auto, unfolding(crate::specs::LabelMedians::label_medians))]
 pub fn label_medians(m: Infostop, xs: &mut [f64], ys: &mut [f64]) -> Result<usize, Refusal>
     ensures { MediansReported m xs.old ys.old result xs.new ys.new }
 {
-    let n = m.count.min(512);
-    let labels = &m.labels[..n];
+    let (places, labels) = (m.points(), m.labels());
     let count = label_count(labels);
     check_model(m.fitted, xs.len() < count || ys.len() < count)?;
-    write_column(|l| label_median(labels, &m.xs[..n], l), count, xs);
-    write_column(|l| label_median(labels, &m.ys[..n], l), count, ys);
+    write_column(|l| label_median(labels, places.xs, l), count, xs);
+    write_column(|l| label_median(labels, places.ys, l), count, ys);
     Ok(count)
 }

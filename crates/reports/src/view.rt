@@ -40,7 +40,7 @@ pub fn check_view(lens: &[u32], labels: usize, trace: usize) -> Result<(), Refus
 }
 
 // The labels of a trace.
-#[tactic(auto, using(crate::proofs::ViewParts::inside))]
+#[tactic(auto, using(crate::proofs::ViewParts::inside, crate::proofs::ViewParts::view_refused))]
 pub fn trace_view<'a>(lens: &[u32], labels: &'a [i32], trace: usize) -> View<'a>
     ensures { Viewed lens.now trace labels.entry result.labels result.checked }
 {

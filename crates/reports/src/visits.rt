@@ -2,17 +2,20 @@
 ghost use Rattle.std.specs.Prelude.{◌≡◌, ◌≤◌, [], length, get_or};
 ghost use Rattle.lists.specs.Lists.{overlay};
 ghost use Rattle.distance.specs.Distance.{euclidean};
-ghost use Rattle.trace.specs.Given.{traces_of};
-ghost use Rattle.stay.specs.Stays.{all_medians};
+ghost use Rattle.distance.specs.Steps.{points_of};
+ghost use Rattle.trace.specs.Given.{fixes_of, traces_of};
+ghost use Rattle.stay.specs.Stays.{stay_medians};
 ghost use Rattle.reports.specs.Visits.{visits_to, trace_visits, VisitsReported};
-ghost use Rattle.reports.specs.Steps.{OneTrace, LabelledStays, VisitsAsked};
+ghost use Rattle.reports.specs.Steps.{StayRoom, LabelledStays, VisitsAsked};
 
 use crate::labels::{is_label, label_count, write_column};
 use crate::shared::{check_model, trace_start};
+use distance::Points;
 use infostop::model::Infostop;
 use settings::config::Config;
 use settings::refusal::Refusal;
-use trace::Tracks;
+use trace::agreed::Agreed;
+use trace::{Trace, Tracks};
 
 // How many of the labels are l.
 fn visits_to(labels: &[i32], l: usize) -> u32
@@ -22,68 +25,45 @@ fn visits_to(labels: &[i32], l: usize) -> u32
     labels.iter().filter(|&&k| is_label(k, l)).count() as u32
 }
 
-// The labels of the stays of one trace, by the places px, py with the labels pl. They stand behind as many words as the trace has fixes; it hands back how many.
+// The labels of the stays of one trace, by the places with the labels pl. They stand behind as many words as the trace has fixes; it hands back how many.
+#[tactic(auto, using(distance::proofs::Columns::length_points, stay::proofs::AllStays::alone_few))]
 fn label_stays(
-    px: &[f64],
-    py: &[f64],
+    places: Points,
     pl: &[i32],
-    t: Tracks,
+    t: Trace,
     s: Config,
     floats: &mut [f64],
     words: &mut [i32],
 ) -> usize
-    requires { (OneTrace t.xs.now t.ys.now t.times.now t.marks.now t.lens.now floats.old words.old) × (length py.now ≡ length px.now) }
-    ensures { LabelledStays (length t.entry.xs.now) px.now py.now pl.now
-        (all_medians euclidean s (traces_of t.entry)) words.new result }
+    requires { StayRoom (length t.xs.now) (length floats.old) (length words.old) }
+    ensures { LabelledStays (length t.entry.xs.now) (points_of places.entry) pl.now
+        (stay_medians euclidean s (fixes_of t.entry)) words.new result }
 {
     let n = t.xs.len();
-    let k = stay::all::all_stays(t, s, &mut floats[..4 * n], &mut words[..n]);
-    cluster::fixes::stay_labels(
-        &floats[2 * n..2 * n + k],
-        &floats[3 * n..3 * n + k],
-        px,
-        py,
-        pl,
-        &mut words[n..n + k],
-    );
+    let k = stay::stays(t, s, &mut floats[..4 * n], 0, &mut words[..n]);
+    let medians = stay::all::medians(floats, n, k);
+    cluster::fixes::stay_labels(medians, places, pl, &mut words[n..n + k]);
     k
 }
 
-// The visits of a trace to each label, to the front of `out`. The model has n places and `count` labels.
-#[tactic(auto, using(crate::proofs::Starts::start_within))]
+// The visits of a trace to each label, to the front of `out`. The model has `count` labels.
+#[tactic(auto, using(crate::proofs::OneTraces::within))]
 fn write_visits(
     m: Infostop,
-    n: usize,
     count: usize,
-    tracks: Tracks,
+    t: Agreed,
     trace: usize,
     floats: &mut [f64],
     words: &mut [i32],
     out: &mut [u32],
 )
-    requires { VisitsAsked m n count tracks.xs.now tracks.ys.now tracks.times.now tracks.marks.now
-        tracks.lens.now trace (length floats.old) (length words.old) (length out.old) }
-    ensures { out.new ≡ overlay (trace_visits m (get_or (traces_of tracks.entry) trace [])) out.old }
+    requires { VisitsAsked m count (length t.tracks.xs.now) (length t.tracks.lens.now) trace (length floats.old) (length words.old) (length out.old) }
+    ensures { out.new ≡ overlay (trace_visits m (get_or (traces_of t.entry.tracks) trace [])) out.old }
 {
-    let at = trace_start(tracks.lens, trace);
-    let len = tracks.lens[trace] as usize;
-    let end = at + len;
-    let one = Tracks {
-        xs: &tracks.xs[at..end],
-        ys: &tracks.ys[at..end],
-        times: &tracks.times[at..end],
-        marks: &tracks.marks[at..end],
-        lens: &tracks.lens[trace..trace + 1],
-    };
-    let k = label_stays(
-        &m.xs[..n],
-        &m.ys[..n],
-        &m.labels[..n],
-        one,
-        m.config,
-        floats,
-        words,
-    );
+    let at = trace_start(t.tracks.lens, trace);
+    let len = t.tracks.lens[trace] as usize;
+    let one = t.part(at, len);
+    let k = label_stays(m.points(), m.labels(), one, m.config, floats, words);
     let visited = &words[len..len + k];
     write_column(|l| visits_to(visited, l), count, out);
 }
@@ -103,9 +83,9 @@ pub fn visits(
         tracks.entry.lens.now trace floats.old words.old out.old result floats.new words.new out.new }
 {
     checks::check_report_tracks(tracks, floats.len(), words.len())?;
-    let n = m.count.min(512);
-    let count = label_count(&m.labels[..n]);
+    let count = label_count(m.labels());
     check_model(m.fitted, tracks.lens.len() <= trace || out.len() < count)?;
-    write_visits(m, n, count, tracks, trace, floats, words, out);
+    let t = Agreed { tracks };
+    write_visits(m, count, t, trace, floats, words, out);
     Ok(count)
 }

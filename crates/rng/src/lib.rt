@@ -49,8 +49,8 @@ pub fn fill<T: Copy + From<u16>>(s: &mut [T])
     requires { length s.old ≤ 512 }
     ensures { Counts T.from_gives s.new }
 {
-    for i in 0..s.len() {
-        s[i] = T::from(i as u16);
+    for (i, x) in s.iter_mut().enumerate() {
+        *x = T::from(i as u16);
     }
 }
 
@@ -69,8 +69,8 @@ fn widen(to: &mut [u32], nodes: &[u16])
     requires { length to.old ≡ length nodes.now }
     ensures { to.new ≡ nodes.now }
 {
-    for i in 0..nodes.len() {
-        to[i] = u32::from(nodes[i]);
+    for (i, &node) in nodes.iter().enumerate() {
+        to[i] = u32::from(node);
     }
 }
 

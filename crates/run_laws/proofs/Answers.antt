@@ -9,7 +9,7 @@ use mathlib.Core.List.{List, [], ◌∷◌}
 use borrow.Author.Tests.{ltb-true, ltb-false, eqb-false, ne_eqb}
 use lib.Dec.{ltb, eqb}
 use lib.ListN.{length, get_or}
-use lib.Ieee.{Float, lt, neg, sub, of_bits}
+use lib.Ieee.{Float, lt, neg}
 use Rattle.lists.specs.Lists.{Has}
 use Rattle.float.specs.Binary64.{sub64}
 use Rattle.lists.proofs.Items.{All}
@@ -17,6 +17,7 @@ use Rattle.map_state.specs.Network.{Network, row}
 use Rattle.map_state.specs.MapState.{MapState, delta_move}
 use Rattle.scan.specs.Scan.{Answer, no_move, move, margin, candidates, best_delta, better, consider, scan_from, scan, highest_from, next_free_module, isolate}
 use Rattle.scan.proofs.Candidates.{each, candidates_have}
+use Rattle.scan.proofs.Isolation.{first_bound}
 use Rattle.optimize.specs.Rounds.{optimize_partition}
 use Rattle.run_laws.proofs.Ways.{Linked}
 use Rattle.run_laws.proofs.Quiet.{trial_no_moves, trial_length}
@@ -73,11 +74,6 @@ module _ (net : Network) (s : MapState) (u : ℕ) where
       pick : (no_move ≡ move h change) ⊎ (NeighbourGroup net s.partition u h × (h ≢ own) × (change ≡ delta_move net s u h)) → NeighbourGroup net s.partition u h × (h ≢ own) × (change ≡ delta_move net s u h)
       pick (inl q) = not_move h change q
       pick (inr q) = q
-
-  -- the change to beat at first, less the margin
-  first_bound : sub64 (best_delta no_move) margin ≡ neg margin
-  unfolding sub neg best_delta of_bits
-  first_bound = refl
 
   -- The change by a move to h is not below minus the margin.
   abbrev pub NotBelow : ℕ → Type 0

@@ -6,7 +6,7 @@ ghost use Rattle.map_state.specs.Steps.{AtNode};
 ghost use Rattle.scan.specs.Scan.{best_delta, better, consider, scan, highest_from, next_free_module, isolate};
 ghost use Rattle.scan.specs.Steps.{answer_of, Next, AtPair, Testable};
 
-use map_state::{MapState, ModuleStats, Network};
+use map_state::{MapState, ModuleStats, Network, Row};
 
 // No move, or the group to move to and the change of codelength.
 // Kept as it is: the rules' form (docs/DECISIONS.md, Forms) is an enum with these two cases.
@@ -45,36 +45,20 @@ fn better(a: Scan, h: u32, d: f64) -> Scan
     }
 }
 
-// One neighbour more.
-fn lower_candidate(
-    partition: &[u32],
-    row: &[f64],
-    floor: usize,
-    best: Option<Candidate>,
-    v: usize,
-) -> Option<Candidate>
-    requires { (length row.now ≡ length partition.now) × (v < length partition.now) × Next partition.now row.now floor v best }
-    ensures { Next partition.now row.now floor (v + 1) result }
-{
-    let group = partition[v];
-    if 0.0 < row[v] && floor <= group as usize {
-        match best {
-            Some(b) if b.group <= group => best,
-            _ => Some(Candidate { group, member: v }),
-        }
-    } else {
-        best
-    }
-}
-
 // A neighbour in the lowest group at or above `floor`.
-fn next_candidate(partition: &[u32], row: &[f64], floor: usize) -> Option<Candidate>
-    requires { length row.now ≡ length partition.now }
-    ensures { Next partition.now row.now floor (length partition.now) result }
+// Kept as it is: the minimum is kept by hand. A chain of `enumerate`, `filter` and `min_by_key` takes more than twice the instructions: 7.8 million
+// for 200 scans of 64 nodes, where this loop takes 3.7. The bar: the grouping must not be slower than before these forms.
+fn next_candidate(row: Row, floor: usize) -> Option<Candidate>
+    ensures { Next row.entry.partition.now row.entry.weights.now floor (length row.entry.partition.now) result }
 {
     let mut best = None;
-    for v in 0..partition.len() {
-        best = lower_candidate(partition, row, floor, best, v);
+    let mut lowest = usize::MAX;
+    for (member, &group) in row.partition.iter().enumerate() {
+        let g = group as usize;
+        if 0.0 < row.weights[member] && floor <= g && g < lowest {
+            lowest = g;
+            best = Some(Candidate { group, member });
+        }
     }
     best
 }
@@ -94,16 +78,16 @@ fn consider(net: &Network, s: &MapState, u: usize, src: ModuleStats, v: usize, a
 }
 
 // The scan of node u: the candidates in rising internal number.
+#[tactic(auto, using(crate::proofs::Candidates::scan_start, crate::proofs::Candidates::scan_on, crate::proofs::Candidates::scan_end), unfolding(crate::specs::Steps::answer_of))]
 pub fn scan_node(net: &Network, s: &MapState, u: usize) -> Scan
     requires { AtNode net.now s.now u }
     ensures { answer_of result ≡ scan net.now s.now u }
 {
-    let partition = s.partition();
-    let row = net.row(u);
+    let row = s.row(net, u);
     let src = s.own_stats(u);
     let mut a = Scan::Stay;
     let mut floor = 0;
-    while let Some(c) = next_candidate(partition, row, floor) {
+    while let Some(c) = next_candidate(row, floor) {
         a = consider(net, s, u, src, c.member, a);
         floor = c.group as usize + 1;
     }
@@ -125,7 +109,7 @@ fn next_free_module(partition: &[u32]) -> u32
 }
 
 // The isolation test of node u.
-#[tactic(auto, unfolding(crate::specs::Scan::isolate, crate::specs::Steps::answer_of))]
+#[tactic(auto, using(crate::proofs::Isolation::isolated), unfolding(crate::specs::Scan::isolate, crate::specs::Steps::answer_of))]
 pub fn isolate(net: &Network, s: &MapState, u: usize) -> Scan
     requires { Testable net.now s.now u }
     ensures { answer_of result ≡ isolate net.now s.now u }
@@ -134,9 +118,5 @@ pub fn isolate(net: &Network, s: &MapState, u: usize) -> Scan
     let src = s.own_stats(u);
     let dest = s.find_stats(h);
     let c = s.delta_move(net, u, h, src, dest);
-    if c < -1e-15 {
-        Scan::Move(h, c)
-    } else {
-        Scan::Stay
-    }
+    better(Scan::Stay, h, c)
 }

@@ -32,7 +32,8 @@ pub enum Refusal {
 }
 
 // The rules' number of a refusal.
-// Kept as it is: `as u32` is for enums whose cases carry nothing, and `From<Refusal> for u32` would be this match once more behind `number`.
+// Kept as it is: `as u32` is for enums whose cases carry nothing. A `From<Refusal> for u32` would be this match under a name that does not say which of a
+// refusal's two numbers it gives, this one or that of the trace.
 pub fn number(e: Refusal) -> u32
     ensures { result ≡ number_of e }
 {

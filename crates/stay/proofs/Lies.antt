@@ -11,18 +11,16 @@ use native.Mathlib.Nat.{add-zero}
 use lib.IntN.{ℤ, pos, negsuc}
 use lib.ListN.{length, get_or, drop, replicate, length-append, length-replicate}
 use lib.Seq.{get_or-drop, drop-drop}
-use lib.Ieee.{Float, nan}
+use lib.Ieee.{Float}
 use Rattle.lists.proofs.Maps.{map_append}
 use Rattle.lists.specs.Lists.{minus_one}
 use Rattle.distance.specs.declared.Point.{Point}
+use Rattle.distance.specs.Steps.{no_point}
 use Rattle.settings.specs.declared.config.Config.{Config}
 use Rattle.trace.specs.Trace.{Fix, timed}
 use Rattle.stay.specs.Stays.{stay_median, is_stay, groups, medians_of, fix_medians_of, stay_medians, fix_medians}
 use Rattle.stay.specs.StepsEvents.{event_number, events_from, event_map}
 use Rattle.stay.proofs.Groups.{concat, concat_groups}
-
-abbrev pub no_point : Point
-no_point = record { x = nan; y = nan }
 
 -- the median at a stay number, none at -1
 abbrev pub median_at : List Point → ℤ → Option Point

@@ -48,3 +48,7 @@ pub inserted : (s : List Float) (n : ℕ) (e : Float) → n < length s → shift
 unfolding shifted insert_ordered
 inserted s n e h =
     rw (length-take-le (n + 1) s (omega arith), add-one n, falls_off (insertion_point e (take n s)) n e (take (suc n) s) (position_in s n e h), take-take n (suc n) s (omega arith))
+
+-- The place of an element among the first len is one of the first len + 1.
+pub place_in : (l : List Float) (len p : ℕ) (e : Float) → len < length l → p ≡ insertion_point e (take len l) → p < length (take (len + 1) l)
+place_in l len p e h i = rw (length-take-le (len + 1) l (omega arith)) (omega (arith, i, position_in l len e h))

@@ -10,7 +10,9 @@ use lib.ListN.{length, get_or, take, drop}
 use lib.Seq.{take_all, sets}
 use lib.Ieee.{Float, nan}
 use Rattle.distance.specs.declared.Point.{Point}
-use Rattle.distance.specs.Distance.{euclidean}
+use Rattle.distance.specs.Distance.{euclidean, points}
+use Rattle.distance.specs.Steps.{point_at as read_at}
+use Rattle.distance.proofs.Columns.{length_points, point_read}
 use Rattle.settings.specs.declared.config.Config.{Config}
 use Rattle.stay.specs.declared.Open.{Open}
 use Rattle.stay.specs.StepsOrdered.{in_order}
@@ -85,7 +87,10 @@ module _ (s : Config) (xs ys ts : List Float) (ms : List ℕ) (ly : length ys �
   abbrev t : Bool
   t = all_marked ms
 
-  -- the fix that the code reads
+  -- the point that the code reads
+  pub read_is : (i : ℕ) → i < length xs → (ps : List Point) → ps ≡ points xs ys → read_at ps i ≡ record { x = get_or xs i nan; y = get_or ys i nan }
+  read_is i h ps e = rw e (sym (point_read xs ys i ly (omega (arith, length_points xs ys ly))))
+
   pub point_is : (i : ℕ) → i < length xs → record { x = get_or xs i nan; y = get_or ys i nan } ≡ point_at fs i
   point_is i h = sym (ap (λ (f : Fix). f.at) (fixes_at xs ys ts ms i ly lt lm h))
 

@@ -23,9 +23,12 @@ pub struct Open {
     pub stays: usize,
 }
 
-// The times of a trace where all are marked: those of another are not looked at.
+// By what fixes join a group and groups are stays: the settings, and the times of a trace where all are marked. Those of another are not looked at.
 #[derive(Clone, Copy, Debug, PartialEq)]
-struct Times<'a>(Option<&'a [f64]>);
+struct Rule<'a> {
+    settings: Config,
+    times: Option<&'a [f64]>,
+}
 
 // The place past the elements that are at most elem, by halving.
 fn insertion_point(s: &[f64], elem: f64) -> usize
@@ -46,7 +49,7 @@ fn shift_in(s: &mut [f64], at: usize, elem: f64)
 }
 
 // elem into the first len elements, which are in order, behind its equals.
-#[tactic(auto, using(crate::proofs::Shift::inserted))]
+#[tactic(auto, using(crate::proofs::Shift::inserted, crate::proofs::Shift::place_in))]
 pub fn insert_ordered(arr: &mut [f64], len: usize, elem: f64)
     requires len_in_bounds { len < length arr.old }
     requires arr_value { in_order (take len arr.old) ≡ true }
@@ -57,7 +60,7 @@ pub fn insert_ordered(arr: &mut [f64], len: usize, elem: f64)
 }
 
 // The median of elements in order; NaN of none.
-#[tactic(auto, unfolding(crate::specs::Ordered::median))]
+#[tactic(auto, using(crate::proofs::Ordered::median_none), unfolding(crate::specs::Ordered::median))]
 pub fn median(s: &[f64]) -> f64
     ensures { result ≡ median s.now }
 {
@@ -90,14 +93,14 @@ fn middle(work: &[f64], q: usize, len: usize) -> Point
     }
 }
 
-impl Times<'_> {
+impl Rule<'_> {
     // The time at b less that at a, where the trace is timed.
     #[tactic(auto, unfolding(crate::specs::Steps::elapsed, crate::specs::Steps::times_in))]
     fn elapsed(self, a: usize, b: usize) -> f64
-        requires { IfSome self.0 (λ ts. (a < length ts.now) × (b < length ts.now)) }
-        ensures { result ≡ elapsed (is_some self.entry.0) (times_in self.entry.0) a b }
+        requires { IfSome self.times (λ ts. (a < length ts.now) × (b < length ts.now)) }
+        ensures { result ≡ elapsed (is_some self.entry.times) (times_in self.entry.times) a b }
     {
-        match self.0 {
+        match self.times {
             Some(ts) => ts[b] - ts[a],
             None => 0.0,
         }
@@ -105,24 +108,28 @@ impl Times<'_> {
 
     // Whether a fix at distance d, a time of gap after the last, joins.
     #[tactic(auto, unfolding(crate::specs::Steps::join_test))]
-    fn joins(self, s: Config, d: f64, gap: f64) -> bool
-        ensures { result ≡ join_test (is_some self.entry.0) s d gap }
+    fn joins(self, d: f64, gap: f64) -> bool
+        ensures { result ≡ join_test (is_some self.entry.times) self.entry.settings d gap }
     {
-        d <= s.r1 && (self.0.is_none() || gap <= s.max_time_between)
+        let s = self.settings;
+        d <= s.r1 && (self.times.is_none() || gap <= s.max_time_between)
     }
 
     // Whether a closed group of n fixes over a time of span is a stay.
     #[tactic(auto, unfolding(crate::specs::Steps::stay_test))]
-    fn is_stay(self, s: Config, n: usize, span: f64) -> bool
-        ensures { result ≡ stay_test (is_some self.entry.0) s n span }
+    fn is_stay(self, n: usize, span: f64) -> bool
+        ensures { result ≡ stay_test (is_some self.entry.times) self.entry.settings n span }
     {
-        s.min_size <= n && (self.0.is_none() || s.min_staying_time <= span)
+        let s = self.settings;
+        s.min_size <= n && (self.times.is_none() || s.min_staying_time <= span)
     }
 }
 
-// Kept as it is: `work`, `events` and `q` go one by one. In a struct with `keep`, `close` and `next` as its methods each of the three would also have to
-// promise that both slices are the same ones, that `q` is the same, and that both are as long as before, which the check knows of a slice lent by itself;
-// the loop in `stays` would carry these five facts, and `insert_both` and `middle` would still be lent `work` and `q`.
+// Kept as it is: `work`, `events` and `q` go one by one. In a struct whose ghost fields say that the slices have room for `q` (tried, with the first arm
+// of `keep` as its method, which proves), each method that writes (`insert_both`, `keep`, `close`, `next`) would also have to promise that both slices
+// are the same ones and that `q` is the same, which the check knows of what is handed over by itself; the loop in `stays` would carry these three facts.
+// Kept as it is: in `events` -1 for no stay, and no Option. The stay numbers stand in the caller's work slice of numbers of 32 bits (docs/RULES.md, "Work
+// slices"), since the memory is fixed, and -1 is none there.
 // The group o closed before fix i, as a stay where its median is handed over.
 #[tactic(auto, using(crate::proofs::States::kept_stay, crate::proofs::States::kept_none), unfolding(crate::specs::Steps::kept))]
 fn keep(
@@ -151,60 +158,49 @@ fn keep(
 
 // The open group closed before fix i, as a stay with its median on the grid or as none.
 #[tactic(auto, using(crate::proofs::States::kept_where), unfolding(crate::specs::Steps::closed, crate::specs::Steps::state_of, crate::specs::Steps::mid_of, crate::specs::StepsRegions::middle_in))]
-fn close(
-    times: Times,
-    s: Config,
-    work: &mut [f64],
-    events: &mut [i32],
-    q: usize,
-    i: usize,
-    o: Open,
-) -> Open
-    requires { IfSome times.0 (λ ts. i ≤ length ts.now) × Room q i o (length work.old) (length events.old) }
-    ensures { state_of q i work.new events.new result ≡ closed s (is_some times.entry.0) (times_in times.entry.0) i (state_of q i work.old events.old o) }
+fn close(rule: Rule, work: &mut [f64], events: &mut [i32], q: usize, i: usize, o: Open) -> Open
+    requires { IfSome rule.times (λ ts. i ≤ length ts.now) × Room q i o (length work.old) (length events.old) }
+    ensures { state_of q i work.new events.new result ≡ closed rule.entry.settings (is_some rule.entry.times) (times_in rule.entry.times) i (state_of q i work.old events.old o) }
 {
     let len = i - o.start;
-    let span = times.elapsed(o.start, i - 1);
-    let m = distance::grid::point_on_grid(middle(work, q, len), s.min_spatial_resolution);
-    keep(
-        work,
-        events,
-        q,
-        i,
-        o,
-        times.is_stay(s, len, span).then_some(m),
-    )
+    let span = rule.elapsed(o.start, i - 1);
+    let m = distance::grid::point_on_grid(
+        middle(work, q, len),
+        rule.settings.min_spatial_resolution,
+    );
+    keep(work, events, q, i, o, rule.is_stay(len, span).then_some(m))
 }
 
 // One fix: it joins the open group, or closes it and opens the next.
+#[tactic(auto, using(crate::proofs::States::grown_state, crate::proofs::States::step_joins, crate::proofs::States::step_closes, crate::proofs::States::test_is), unfolding(crate::specs::StepsOrdered::in_order))]
 fn next(
     p: Point,
-    times: Times,
-    s: Config,
+    rule: Rule,
     work: &mut [f64],
     events: &mut [i32],
     q: usize,
     i: usize,
     o: Open,
 ) -> Open
-    requires { IfSome times.0 (λ ts. i < length ts.now) × Ready q i o work.old (length events.old) }
-    ensures { state_of q (i + 1) work.new events.new result ≡ step euclidean s (is_some times.entry.0) (times_in times.entry.0) p i (state_of q i work.old events.old o) }
+    requires { IfSome rule.times (λ ts. i < length ts.now) × Ready q i o work.old (length events.old) }
+    ensures { state_of q (i + 1) work.new events.new result ≡ step euclidean rule.entry.settings (is_some rule.entry.times) (times_in rule.entry.times) p i (state_of q i work.old events.old o) }
 {
     let len = i - o.start;
     let m = middle(work, q, len);
     let d = distance::distance(p, m);
-    let gap = times.elapsed(i - 1, i);
-    if times.joins(s, d, gap) {
+    let gap = rule.elapsed(i - 1, i);
+    if rule.joins(d, gap) {
         insert_both(work, q, len, p);
         return o;
     }
-    let n = close(times, s, work, events, q, i, o);
+    let n = close(rule, work, events, q, i, o);
     insert_both(work, q, 0, p);
     n
 }
 
 // The stays of one trace: `found` is how many the traces before it have. It hands back how many there are, writes for each fix the number of
 // the accepted stay it lies in, or -1, and the stays' medians behind those of the traces before it.
+#[tactic(auto, using(distance::proofs::Columns::length_points), unfolding(crate::specs::StepsOrdered::in_order))]
 pub fn stays(t: Trace, s: Config, work: &mut [f64], found: usize, events: &mut [i32]) -> usize
     requires { Lengths (length t.xs.now) (length events.old) (length work.old) found }
     ensures { Found s (fixes_of t.entry) found work.old work.new events.new result }
@@ -214,23 +210,19 @@ pub fn stays(t: Trace, s: Config, work: &mut [f64], found: usize, events: &mut [
         return 0;
     }
     let q = work.len() / 4;
-    let times = Times(trace::all_marked(t.marks).then_some(t.times));
-    let first = Point {
-        x: t.xs[0],
-        y: t.ys[0],
+    let rule = Rule {
+        settings: s,
+        times: trace::all_marked(t.marks).then_some(t.times),
     };
-    insert_both(work, q, 0, first);
+    let points = t.points();
+    insert_both(work, q, 0, points.at(0));
     let mut o = Open {
         start: 0,
         stays: found,
     };
     for i in 1..n {
-        let p = Point {
-            x: t.xs[i],
-            y: t.ys[i],
-        };
-        o = next(p, times, s, work, events, q, i, o);
+        o = next(points.at(i), rule, work, events, q, i, o);
     }
-    let last = close(times, s, work, events, q, n, o);
+    let last = close(rule, work, events, q, n, o);
     last.stays - found
 }

@@ -1,5 +1,5 @@
 -- A field in a text: `run` of `Machine` against `cut` of `Form`.
-use Rattle.std.proofs.Common.{◌≡◌, ℕ, ◌+◌, ◌-◌, ◌*◌, ◌≤◌, Bool, true, false, cond, not, ◌&&◌, ◌||◌, eqb, leb, ◌⊎◌, List, [], ◌∷◌, sym, refl, ap, ◌∙◌, inl, inr, ⊎_elim, arith, ne_eqb, eqb-true}
+use Rattle.std.proofs.Common.{◌≡◌, ℕ, ◌≤◌, Bool, true, false, cond, not, ◌&&◌, ◌||◌, eqb, leb, ◌⊎◌, List, [], ◌∷◌, sym, refl, ap, ◌∙◌, inl, inr, ⊎_elim, arith, ne_eqb, eqb-true, is_some}
 use mathlib.Core.Bool.{and-false}
 use mathlib.Core.Option.{Option, none, some, map}
 use Rattle.text.specs.declared.state.State.{State}
@@ -10,7 +10,7 @@ use Rattle.text.proofs.Stages.{lexed_settings, lexed_fixes, lexed_outside, field
 use Rattle.text.proofs.Numbers.{field_bytes, refused_stays}
 use Rattle.text.specs.Bytes.{is_digit}
 use Rattle.text.specs.Form.{cut}
-use Rattle.text.specs.Machine.{Machine, in_settings, in_fixes, refused, signed, grown, field_byte, ends, end_of, row_byte, row_fields, lexed, lexed_fields, judged, set_line, fix_line, stored, set_if, step, run, ended}
+use Rattle.text.specs.Machine.{Machine, in_settings, in_fixes, refused, signed, grown, with_digit, field_byte, ends, end_of, row_byte, row_fields, lexed, lexed_fields, judged, set_line, fix_line, stored, set_if, step, run, ended}
 
 -- The machine at another state.
 unfoldable pub moved : Machine → State → Machine
@@ -56,8 +56,8 @@ stuck m (b ∷ t) e = stuck (step m b) t (ap (λ (s : State). s.stage) (stuck_st
 
 byte_k : (s : State) (b : ℕ) → (field_byte s b).k ≡ s.k
 unfolding field_byte refused signed grown
-byte_k s b = go (eqb b 45) (s.minus || s.digit) (is_digit b && leb (s.value * 10 + (b - 48)) 1000000000) where
-  go : (t u v : Bool) → (cond t (cond u (refused s) (signed s)) (cond v (grown s (s.value * 10 + (b - 48))) (refused s))).k ≡ s.k
+byte_k s b = go (eqb b 45) (s.minus || is_some s.value) (is_digit b && leb (with_digit s b) 1000000000) where
+  go : (t u v : Bool) → (cond t (cond u (refused s) (signed s)) (cond v (grown s (with_digit s b)) (refused s))).k ≡ s.k
   go true true v = refl
   go true false v = refl
   go false u true = refl
@@ -65,9 +65,9 @@ byte_k s b = go (eqb b 45) (s.minus || s.digit) (is_digit b && leb (s.value * 10
 
 byte_stage : (s : State) (b : ℕ) → ((field_byte s b).stage ≡ s.stage) ⊎ ((field_byte s b).stage ≡ Outside)
 unfolding field_byte refused signed grown
-byte_stage s b = go (eqb b 45) (s.minus || s.digit) (is_digit b && leb (s.value * 10 + (b - 48)) 1000000000) where
+byte_stage s b = go (eqb b 45) (s.minus || is_some s.value) (is_digit b && leb (with_digit s b) 1000000000) where
   go : (t u v : Bool)
-      → ((cond t (cond u (refused s) (signed s)) (cond v (grown s (s.value * 10 + (b - 48))) (refused s))).stage ≡ s.stage) ⊎ ((cond t (cond u (refused s) (signed s)) (cond v (grown s (s.value * 10 + (b - 48))) (refused s))).stage ≡ Outside)
+      → ((cond t (cond u (refused s) (signed s)) (cond v (grown s (with_digit s b)) (refused s))).stage ≡ s.stage) ⊎ ((cond t (cond u (refused s) (signed s)) (cond v (grown s (with_digit s b)) (refused s))).stage ≡ Outside)
   go true true v = inr refl
   go true false v = inl refl
   go false u true = inl refl
@@ -76,8 +76,8 @@ byte_stage s b = go (eqb b 45) (s.minus || s.digit) (is_digit b && leb (s.value 
 -- After a byte of a field the text cannot end.
 byte_ended : (s : State) (b : ℕ) → ended (field_byte s b) ≡ false
 unfolding field_byte refused signed grown ended
-byte_ended s b = go (eqb b 45) (s.minus || s.digit) (is_digit b && leb (s.value * 10 + (b - 48)) 1000000000) where
-  go : (t u v : Bool) → ended (cond t (cond u (refused s) (signed s)) (cond v (grown s (s.value * 10 + (b - 48))) (refused s))) ≡ false
+byte_ended s b = go (eqb b 45) (s.minus || is_some s.value) (is_digit b && leb (with_digit s b) 1000000000) where
+  go : (t u v : Bool) → ended (cond t (cond u (refused s) (signed s)) (cond v (grown s (with_digit s b)) (refused s))) ≡ false
   go true true v = refl
   go true false v = rw (and-false (in_fixes s.stage && eqb s.k 7))
   go false u true = and-false (in_fixes s.stage && eqb s.k 7 && not s.minus)

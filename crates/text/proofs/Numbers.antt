@@ -1,5 +1,5 @@
 -- A field taken byte by byte is the field that its bytes write: `field_byte` of `Machine` against `field_of` of `Fields`.
-use Rattle.std.proofs.Common.{◌≡◌, ℕ, ◌+◌, ◌-◌, ◌*◌, ◌<◌, ◌≤◌, Bool, true, false, cond, not, ◌&&◌, ◌||◌, eqb, leb, ◌⊎◌, List, [], ◌∷◌, sym, refl, ap, ◌∙◌, subst, inl, inr, arith, ne_eqb, le-leb, leb-false, leb-true}
+use Rattle.std.proofs.Common.{◌≡◌, ℕ, ◌+◌, ◌-◌, ◌*◌, ◌<◌, ◌≤◌, Bool, true, false, cond, not, ◌&&◌, ◌||◌, eqb, leb, ◌⊎◌, List, [], ◌∷◌, sym, refl, ap, ◌∙◌, subst, inl, inr, arith, ne_eqb, le-leb, leb-false, leb-true, is_some, unwrap_or}
 use borrow.Author.Tests.{lt-leb}
 use Rattle.lists.proofs.Tests.{and_left, and_right, or_true, clash}
 use Rattle.text.specs.declared.state.State.{State}
@@ -11,7 +11,7 @@ use Rattle.text.specs.Bytes.{is_digit}
 use Rattle.text.specs.Fields.{Field, number, dash, bad, all_digits, size_from, digits_of, after_minus, field_of, size_of}
 -- Named so that the facts are checked before these lemmas.
 use Rattle.text.specs.Facts
-use Rattle.text.specs.Machine.{refused, begun, signed, grown, field_byte, field_sign}
+use Rattle.text.specs.Machine.{refused, begun, signed, grown, with_digit, field_byte, field_sign}
 
 -- The bytes of a field.
 unfoldable pub field_bytes : State → List ℕ → State
@@ -23,19 +23,19 @@ unfolding is_digit
 digit_low b h = leb-true 48 b (and_left (leb 48 b) (leb b 57) h)
 
 -- One digit.
-digit_on : (s : State) (b : ℕ) → is_digit b ≡ true → s.value * 10 + (b - 48) ≤ 1000000000 → field_byte s b ≡ grown s (s.value * 10 + (b - 48))
+digit_on : (s : State) (b : ℕ) → is_digit b ≡ true → with_digit s b ≤ 1000000000 → field_byte s b ≡ grown s (with_digit s b)
 unfolding field_byte
-digit_on s b h l = let k = digit_low b h in simp (ne_eqb b 45 (λ e. omega arith), h, le-leb (s.value * 10 + (b - 48)) 1000000000 l)
+digit_on s b h l = let k = digit_low b h in simp (ne_eqb b 45 (λ e. omega arith), h, le-leb (with_digit s b) 1000000000 l)
 
-digit_over : (s : State) (b : ℕ) → is_digit b ≡ true → 1000000000 < s.value * 10 + (b - 48) → field_byte s b ≡ refused s
+digit_over : (s : State) (b : ℕ) → is_digit b ≡ true → 1000000000 < with_digit s b → field_byte s b ≡ refused s
 unfolding field_byte
-digit_over s b h l = let k = digit_low b h in simp (ne_eqb b 45 (λ e. omega arith), h, lt-leb (s.value * 10 + (b - 48)) 1000000000 l)
+digit_over s b h l = let k = digit_low b h in simp (ne_eqb b 45 (λ e. omega arith), h, lt-leb (with_digit s b) 1000000000 l)
 
-digit_not : (s : State) (b : ℕ) → s.minus || s.digit ≡ true → is_digit b ≡ false → field_byte s b ≡ refused s
+digit_not : (s : State) (b : ℕ) → s.minus || is_some s.value ≡ true → is_digit b ≡ false → field_byte s b ≡ refused s
 unfolding field_byte
 digit_not s b m h = go (eqb b 45) refl where
   go : (t : Bool) → eqb b 45 ≡ t
-      → cond t (cond (s.minus || s.digit) (refused s) (signed s)) (cond (is_digit b && leb (s.value * 10 + (b - 48)) 1000000000) (grown s (s.value * 10 + (b - 48))) (refused s))
+      → cond t (cond (s.minus || is_some s.value) (refused s) (signed s)) (cond (is_digit b && leb (with_digit s b) 1000000000) (grown s (with_digit s b)) (refused s))
       ≡ refused s
   go true e = rw m
   go false e = rw h
@@ -43,8 +43,8 @@ digit_not s b m h = go (eqb b 45) refl where
 -- What is refused stays so.
 refused_on : (s : State) (b : ℕ) → s.stage ≡ Outside → (field_byte s b).stage ≡ Outside
 unfolding field_byte refused signed grown
-refused_on s b e = go (eqb b 45) (s.minus || s.digit) (is_digit b && leb (s.value * 10 + (b - 48)) 1000000000) where
-  go : (t u v : Bool) → (cond t (cond u (refused s) (signed s)) (cond v (grown s (s.value * 10 + (b - 48))) (refused s))).stage ≡ Outside
+refused_on s b e = go (eqb b 45) (s.minus || is_some s.value) (is_digit b && leb (with_digit s b) 1000000000) where
+  go : (t u v : Bool) → (cond t (cond u (refused s) (signed s)) (cond v (grown s (with_digit s b)) (refused s))).stage ≡ Outside
   go true true v = refl
   go true false v = e
   go false u true = e
@@ -62,29 +62,29 @@ raises v [] = omega arith
 raises v (b ∷ bs) = let r = raises (v * 10 + (b - 48)) bs in omega arith
 
 -- Digits that write a number of size at most 10^9.
-pub good : (s : State) (b : ℕ) (bs : List ℕ) → all_digits (b ∷ bs) ≡ true → size_from s.value (b ∷ bs) ≤ 1000000000
-    → field_bytes s (b ∷ bs) ≡ grown s (size_from s.value (b ∷ bs))
+pub good : (s : State) (b : ℕ) (bs : List ℕ) → all_digits (b ∷ bs) ≡ true → size_from (unwrap_or s.value 0) (b ∷ bs) ≤ 1000000000
+    → field_bytes s (b ∷ bs) ≡ grown s (size_from (unwrap_or s.value 0) (b ∷ bs))
 unfolding field_bytes all_digits size_from grown
 good s b [] d l = digit_on s b (and_left (is_digit b) true d) l
 good s b (c ∷ cs) d l =
-    let v = s.value * 10 + (b - 48) in
+    let v = with_digit s b in
     let r : v ≤ size_from v (c ∷ cs) = raises v (c ∷ cs) in
     let o : field_byte s b ≡ grown s v = digit_on s b (and_left (is_digit b) (all_digits (c ∷ cs)) d) (omega arith) in
     ap (λ (q : State). field_bytes q (c ∷ cs)) o ∙ good (grown s v) c cs (and_right (is_digit b) (all_digits (c ∷ cs)) d) l
 
 -- Bytes that do not, after a minus or a digit.
-pub ill : (s : State) (bs : List ℕ) → s.minus || s.digit ≡ true → s.value ≤ 1000000000 → (all_digits bs ≡ true → size_from s.value bs ≤ 1000000000 → ⊥)
+pub ill : (s : State) (bs : List ℕ) → s.minus || is_some s.value ≡ true → unwrap_or s.value 0 ≤ 1000000000 → (all_digits bs ≡ true → size_from (unwrap_or s.value 0) bs ≤ 1000000000 → ⊥)
     → (field_bytes s bs).stage ≡ Outside
 unfolding field_bytes all_digits size_from refused grown
 ill s [] m l h = absurd (h refl l)
-ill s (b ∷ bs) m l h = go (λ q. λ p. λ k. λ z. ill q bs p k z) (is_digit b) (leb (s.value * 10 + (b - 48)) 1000000000) refl refl where
-  go : ((q : State) → q.minus || q.digit ≡ true → q.value ≤ 1000000000 → (all_digits bs ≡ true → size_from q.value bs ≤ 1000000000 → ⊥) → (field_bytes q bs).stage ≡ Outside)
-      → (t u : Bool) → is_digit b ≡ t → leb (s.value * 10 + (b - 48)) 1000000000 ≡ u → (field_bytes (field_byte s b) bs).stage ≡ Outside
+ill s (b ∷ bs) m l h = go (λ q. λ p. λ k. λ z. ill q bs p k z) (is_digit b) (leb (with_digit s b) 1000000000) refl refl where
+  go : ((q : State) → q.minus || is_some q.value ≡ true → unwrap_or q.value 0 ≤ 1000000000 → (all_digits bs ≡ true → size_from (unwrap_or q.value 0) bs ≤ 1000000000 → ⊥) → (field_bytes q bs).stage ≡ Outside)
+      → (t u : Bool) → is_digit b ≡ t → leb (with_digit s b) 1000000000 ≡ u → (field_bytes (field_byte s b) bs).stage ≡ Outside
   go i false u e f = rw (digit_not s b m e) (refused_stays (refused s) bs refl)
   go i true false e f = rw (digit_over s b e (leb-false _ _ f)) (refused_stays (refused s) bs refl)
   go i true true e f =
-      let k : s.value * 10 + (b - 48) ≤ 1000000000 = leb-true _ _ f in
-      rw (digit_on s b e k) (i (grown s (s.value * 10 + (b - 48))) (or_true s.minus true refl) k (λ d. λ z. h (rw e d) z))
+      let k : with_digit s b ≤ 1000000000 = leb-true _ _ f in
+      rw (digit_on s b e k) (i (grown s (with_digit s b)) (or_true s.minus true refl) k (λ d. λ z. h (rw e d) z))
 
 both : (a b : Bool) → a ≡ true → b ≡ true → a && b ≡ true
 both a b p q = rw (p, q)
@@ -98,7 +98,7 @@ unfolding field_byte
 other_first s b n h = simp (n, h)
 
 -- A first byte that is no minus, of a field that is no number.
-first_ill : (s : State) (b : ℕ) (bs : List ℕ) → s.value ≡ 0 → eqb b 45 ≡ false → all_digits (b ∷ bs) && leb (size_from 0 (b ∷ bs)) 1000000000 ≡ false
+first_ill : (s : State) (b : ℕ) (bs : List ℕ) → unwrap_or s.value 0 ≡ 0 → eqb b 45 ≡ false → all_digits (b ∷ bs) && leb (size_from 0 (b ∷ bs)) 1000000000 ≡ false
     → (field_bytes s (b ∷ bs)).stage ≡ Outside
 unfolding field_bytes all_digits size_from refused grown
 first_ill s b bs z n e = go (is_digit b) refl where
@@ -106,12 +106,12 @@ first_ill s b bs z n e = go (is_digit b) refl where
   go false h = rw (other_first s b n h) (refused_stays (refused s) bs refl)
   go true h =
       let w = digit_high b h in
-      let k : s.value * 10 + (b - 48) ≤ 1000000000 = omega arith in
-      rw (digit_on s b h k) (ill (grown s (s.value * 10 + (b - 48))) bs (or_true s.minus true refl) k
+      let k : with_digit s b ≤ 1000000000 = omega arith in
+      rw (digit_on s b h k) (ill (grown s (with_digit s b)) bs (or_true s.minus true refl) k
       (λ a. λ y. clash (is_digit b && all_digits bs && leb (size_from (0 * 10 + (b - 48)) bs) 1000000000)
       (both (is_digit b && all_digits bs) (leb (size_from (0 * 10 + (b - 48)) bs) 1000000000) (both (is_digit b) (all_digits bs) h a) (le-leb _ _ (rw z at y))) e))
 
-minus_first : (s : State) (b : ℕ) → eqb b 45 ≡ true → s.minus || s.digit ≡ false → field_byte s b ≡ signed s
+minus_first : (s : State) (b : ℕ) → eqb b 45 ≡ true → s.minus || is_some s.value ≡ false → field_byte s b ≡ signed s
 unfolding field_byte
 minus_first s b e h = simp (e, h)
 
@@ -124,7 +124,7 @@ sign_of bad = Empty
 -- The state S, after the bytes of the field F, from the start of field k.
 pub record Ok (s : State) (g : Stage) (k : ℕ) (F : Field) (S : State) : Type 0 where
   pub sign : field_sign S ≡ sign_of F
-  pub size : S.value ≡ size_of F
+  pub size : unwrap_or S.value 0 ≡ size_of F
   pub stage : S.stage ≡ g
   pub field : S.k ≡ k
   pub same : (h : Stage) (j : ℕ) → begun S h j ≡ begun s h j
@@ -139,7 +139,7 @@ module _ (s : State) (g : Stage) (k : ℕ) where
   unfolding field_sign sign_of size_of grown begun
   ok_grown q neg v m w y c = record { sign = rw m; size = refl; stage = w; field = y; same = c }
 
-  digits_read : (q : State) (neg : Bool) (b : ℕ) (bs : List ℕ) → q.value ≡ 0 → q.minus ≡ neg → q.stage ≡ g → q.k ≡ k
+  digits_read : (q : State) (neg : Bool) (b : ℕ) (bs : List ℕ) → unwrap_or q.value 0 ≡ 0 → q.minus ≡ neg → q.stage ≡ g → q.k ≡ k
       → ((h : Stage) (j : ℕ) → begun q h j ≡ begun s h j) → (all_digits (b ∷ bs) && leb (size_from 0 (b ∷ bs)) 1000000000 ≡ false → (field_bytes q (b ∷ bs)).stage ≡ Outside)
       → Reads s g k (digits_of neg (b ∷ bs)) (field_bytes q (b ∷ bs))
   unfolding Reads digits_of
@@ -148,7 +148,7 @@ module _ (s : State) (g : Stage) (k : ℕ) where
         → Ok s g k (cond t (number (neg && not (eqb (size_from 0 (b ∷ bs)) 0)) (size_from 0 (b ∷ bs))) bad) (field_bytes q (b ∷ bs))
         ⊎ ((cond t (number (neg && not (eqb (size_from 0 (b ∷ bs)) 0)) (size_from 0 (b ∷ bs))) bad ≡ bad) × ((field_bytes q (b ∷ bs)).stage ≡ Outside))
     go true e =
-        let l : size_from q.value (b ∷ bs) ≤ 1000000000 = rw z (leb-true _ _ (and_right (all_digits (b ∷ bs)) (leb (size_from 0 (b ∷ bs)) 1000000000) e)) in
+        let l : size_from (unwrap_or q.value 0) (b ∷ bs) ≤ 1000000000 = rw z (leb-true _ _ (and_right (all_digits (b ∷ bs)) (leb (size_from 0 (b ∷ bs)) 1000000000) e)) in
         let p : field_bytes q (b ∷ bs) ≡ grown q (size_from 0 (b ∷ bs)) = good q b bs (and_left (all_digits (b ∷ bs)) (leb (size_from 0 (b ∷ bs)) 1000000000) e) l ∙ ap (λ (v : ℕ). grown q (size_from v (b ∷ bs))) z in
         inl (subst (λ (S : State). Ok s g k (number (neg && not (eqb (size_from 0 (b ∷ bs)) 0)) (size_from 0 (b ∷ bs))) S) (sym p) (ok_grown q neg (size_from 0 (b ∷ bs)) m w y c))
     go false e = inr (refl, h e)

@@ -1,5 +1,5 @@
 -- A line of values in a text: `run` of `Machine` against `row_of` of `Form`.
-use Rattle.std.proofs.Common.{◌≡◌, ℕ, zero, suc, ◌+◌, ◌<◌, ◌≤◌, Bool, true, false, ◌⊎◌, List, [], ◌∷◌, set, sym, refl, ap, ◌∙◌, subst, inl, inr, ⊎_elim, add-one, arith, le-ltb, lt-ltb, eq-eqb}
+use Rattle.std.proofs.Common.{◌≡◌, ℕ, zero, suc, ◌+◌, ◌<◌, ◌≤◌, Bool, true, false, ◌⊎◌, List, [], ◌∷◌, set, sym, refl, ap, ◌∙◌, subst, inl, inr, ⊎_elim, add-one, arith, le-ltb, lt-ltb, eq-eqb, unwrap_or}
 use mathlib.Core.Option.{Option, none, some, bind, map}
 use Rattle.text.specs.declared.state.State.{State}
 use Rattle.text.specs.declared.state.Stage.{Stage}
@@ -53,7 +53,7 @@ row_bad : (last : ℕ) (S : State) (b : ℕ) → ends last S b ≡ true → empt
 unfolding row_byte
 row_bad last S b e h = simp (e, h)
 
-row_fields_lem : (last : ℕ) (S : State) (b : ℕ) (l : List Kept) → ends last S b ≡ true → row_fields last S b l ≡ set l S.k (record { size = S.value; sign = field_sign S })
+row_fields_lem : (last : ℕ) (S : State) (b : ℕ) (l : List Kept) → ends last S b ≡ true → row_fields last S b l ≡ set l S.k (record { size = unwrap_or S.value 0; sign = field_sign S })
 unfolding row_fields
 row_fields_lem last S b l e = simp e
 

@@ -1,6 +1,6 @@
 -- The machine that takes a text byte by byte, as the code does. `Form` and `Values` say in lines and fields what it takes, and proofs/Reading.antt joins
 -- the two.
-use Rattle.std.specs.Prelude.{◌≡◌, ℕ, ◌+◌, ◌-◌, ◌*◌, Bool, true, false, cond, not, ◌&&◌, ◌||◌, List, [], ◌∷◌, length, replicate, ◌==◌, nat_le, nat_lt, slice_index, slice_index_or, set, Float}
+use Rattle.std.specs.Prelude.{◌≡◌, ℕ, ◌+◌, ◌-◌, ◌*◌, Bool, true, false, cond, not, ◌&&◌, ◌||◌, List, [], ◌∷◌, length, replicate, ◌==◌, nat_le, nat_lt, slice_index, slice_index_or, set, Float, Some, None, is_some, is_none, unwrap_or}
 use Rattle.std.specs.Float.Ieee.{neg}
 use Rattle.float.specs.Binary64.{zero64, whole64}
 use Rattle.settings.specs.declared.config.Config.{Config}
@@ -19,23 +19,23 @@ use Rattle.text.specs.Values.{Columns}
 
 -- Before the first byte.
 unfoldable pub initial : State
-initial = record { stage = SettingNames; k = 0; minus = false; digit = false; value = 0; fixes = 0; traces = 0; len = 0 }
+initial = record { stage = SettingNames; k = 0; minus = false; value = None; fixes = 0; traces = 0; len = 0 }
 
 -- Not in the form, from here on.
 unfoldable pub refused : State → State
-refused s = record { stage = Outside; k = s.k; minus = s.minus; digit = s.digit; value = s.value; fixes = s.fixes; traces = s.traces; len = s.len }
+refused s = record { stage = Outside; k = s.k; minus = s.minus; value = s.value; fixes = s.fixes; traces = s.traces; len = s.len }
 
 -- At the start of field or byte k of the stage g.
 unfoldable pub begun : State → Stage → ℕ → State
-begun s g k = record { stage = g; k = k; minus = false; digit = false; value = 0; fixes = s.fixes; traces = s.traces; len = s.len }
+begun s g k = record { stage = g; k = k; minus = false; value = None; fixes = s.fixes; traces = s.traces; len = s.len }
 
 -- After a minus.
 unfoldable pub signed : State → State
-signed s = record { stage = s.stage; k = s.k; minus = true; digit = s.digit; value = s.value; fixes = s.fixes; traces = s.traces; len = s.len }
+signed s = record { stage = s.stage; k = s.k; minus = true; value = s.value; fixes = s.fixes; traces = s.traces; len = s.len }
 
 -- After digits of value v.
 unfoldable pub grown : State → ℕ → State
-grown s v = record { stage = s.stage; k = s.k; minus = s.minus; digit = true; value = v; fixes = s.fixes; traces = s.traces; len = s.len }
+grown s v = record { stage = s.stage; k = s.k; minus = s.minus; value = Some v; fixes = s.fixes; traces = s.traces; len = s.len }
 
 -- The stage of the settings, and that of the fixes.
 abbrev pub in_settings : Stage → Bool
@@ -54,7 +54,7 @@ in_fixes Outside = false
 
 -- The text may end here: after the names of a fix, or after a fix.
 unfoldable pub ended : State → Bool
-ended s = in_fixes s.stage && s.k == 7 && not s.minus && not s.digit
+ended s = in_fixes s.stage && s.k == 7 && not s.minus && is_none s.value
 
 -- ---- a byte of a line
 
@@ -65,16 +65,20 @@ name_byte names g k₁ s b =
     (cond (nat_lt (s.k + 1) (length names)) (begun s s.stage (s.k + 1)) (begun s g k₁))
     (refused s)
 
+-- The value of a field's digits with the digit b behind them; before the first digit they count as 0.
+abbrev pub with_digit : State → ℕ → ℕ
+with_digit s b = unwrap_or s.value 0 * 10 + (b - 48)
+
 -- A byte within a field: a minus at its start, or a digit.
 unfoldable pub field_byte : State → ℕ → State
 field_byte s b =
     cond (b == minus_sign)
-    (cond (s.minus || s.digit) (refused s) (signed s))
-    (cond (is_digit b && nat_le (s.value * 10 + (b - 48)) 1000000000) (grown s (s.value * 10 + (b - 48))) (refused s))
+    (cond (s.minus || is_some s.value) (refused s) (signed s))
+    (cond (is_digit b && nat_le (with_digit s b) 1000000000) (grown s (with_digit s b)) (refused s))
 
 -- How a field ends: a number that is not negative (-0 is one), a negative one, a minus alone, or nothing.
 unfoldable pub field_sign : State → Sign
-field_sign s = cond s.digit (cond (s.minus && not (s.value == 0)) Negative Natural) (cond s.minus Dash Empty)
+field_sign s = elim s.value [ Some v ↦ cond (s.minus && not (v == 0)) Negative Natural | None ↦ cond s.minus Dash Empty ]
 
 -- A number, negative or not.
 abbrev pub whole_sign : Sign → Bool
@@ -113,7 +117,7 @@ row_byte last s b =
     (field_byte s b)
 
 unfoldable pub row_fields : ℕ → State → ℕ → List Field → List Field
-row_fields last s b l = cond (ends last s b) (set l s.k (record { size = s.value; sign = field_sign s })) l
+row_fields last s b l = cond (ends last s b) (set l s.k (record { size = unwrap_or s.value 0; sign = field_sign s })) l
 
 -- A byte by its stage. Fields 0 to 6 are the settings, 7 to 10 those of a fix.
 unfoldable pub lexed : State → ℕ → State
@@ -171,7 +175,7 @@ more n = cond (nat_lt n 769) (n + 1) n
 -- After a fix of trace t: the number of fixes, of traces, and of fixes in the last trace.
 unfoldable pub counted : ℕ → State → State
 counted t s =
-    record { stage = Fixes; k = 7; minus = false; digit = false; value = 0; fixes = more s.fixes; traces = t + 1; len = cond (t == s.traces) 1 (more s.len) }
+    record { stage = Fixes; k = 7; minus = false; value = None; fixes = more s.fixes; traces = t + 1; len = cond (t == s.traces) 1 (more s.len) }
 
 unfoldable pub noted : List Field → State → State
 noted fs s = cond (fix_ok fs s) (counted (field_at fs 7).size s) (refused s)

@@ -11,6 +11,8 @@ pub enum Sign {
     Empty,
 }
 
+// Kept as it is: a size beside the sign, and no enum that holds the size: the rules read the size of every field, 0 where there is no digit, and with an
+// enum each reader would ask for it by a method.
 #[derive(Clone, Copy, Debug, PartialEq, Eq)]
 pub struct Field {
     pub size: u64,
@@ -45,6 +47,7 @@ impl Sign {
 
 impl Field {
     // As a float.
+    // Kept as it is: a method, and no `From<Field> for f64`: `f64::from(field)` says no more than `field.value()`, and the definition is of the value.
     #[tactic(auto, unfolding(crate::specs::Machine::signed_whole))]
     pub(crate) fn value(self) -> f64
         ensures { result ≡ signed_whole self }

@@ -1,20 +1,13 @@
 // A line, judged when it is whole.
 ghost use Rattle.std.specs.Prelude.{◌≡◌, ◌≤◌};
-ghost use Rattle.text.specs.Machine.{set_line, fix_line, settings_ok, settled, fix_ok, more as Machine·more, counted, noted, judged, stored};
+ghost use Rattle.text.specs.Machine.{set_line, fix_line, settings_ok, settled, fix_ok, counted, noted, judged, stored};
 
 use crate::Reader;
 use crate::state::{Stage, State};
 
-// One more, up to 769.
-#[tactic(auto, unfolding(crate::specs::Machine::more))]
-fn more(n: u64) -> u64
-    ensures { result ≡ Machine·more n }
-{
-    if n < 769 { n + 1 } else { n }
-}
-
 impl State {
     // Behind the last field of the settings.
+    // Kept as it is, beside `fix_line`: each is a definition of the reader's in one test. One function of a stage and a field would state neither.
     #[tactic(auto, unfolding(crate::specs::Machine::set_line))]
     fn set_line(&self) -> bool
         ensures { result ≡ set_line self.now }
@@ -36,12 +29,14 @@ impl State {
         requires { t ≤ 1000000000 }
         ensures { self.new ≡ counted t self.old }
     {
-        self.len = if t == self.traces {
-            1
-        } else {
-            more(u64::from(self.len)) as u32
-        };
-        self.fixes = more(self.fixes as u64) as usize;
+        if t == self.traces {
+            self.len = 1;
+        } else if self.len < 769 {
+            self.len += 1;
+        }
+        if self.fixes < 769 {
+            self.fixes += 1;
+        }
         self.traces = t + 1;
         self.begin(Stage::Fixes, 7);
     }

@@ -27,7 +27,7 @@ pub struct Input {
 }
 
 // What is held between the pieces of a text: the state, and the fields of the settings (0 to 6) and of the last fix line (7 to 10).
-// Kept as it is: an array of eleven fields, of which each has its place; the project takes no heap.
+// Kept as it is: an array and no field by name, since `row_byte` writes field k of a line, whichever it is.
 #[derive(Clone, Copy, Debug, PartialEq, Eq)]
 pub struct Reader {
     pub state: State,
@@ -86,6 +86,7 @@ pub fn start() -> Reader
 // Kept as it is: five slices side by side. In a struct lent by `&mut`, as the one of `Output` in crate `print` is, each function on the way and each loop
 // would have to say of all five that they are still the caller's (`c.new.xs.ghost_name ≡ c.old.xs.ghost_name` and so on; tried: without that they are
 // unknown to the caller afterwards). Of a struct that is handed over by value the contract names the slices by place (`c.exit.1.1.1.0.now`: the marks).
+// A struct that owns arrays, as the one of `reply` does, would ask more of callers: slices of any length are taken here.
 pub fn feed(
     mut r: Reader,
     text: &[u8],

@@ -14,7 +14,7 @@ impl State {
         ensures { self.new ≡ name_byte names.now stage at self.old b }
     {
         let k = self.k;
-        if names.len() <= k || b != names[k] {
+        if names.get(k) != Some(&b) {
             self.refuse();
         } else if k + 1 < names.len() {
             self.begin(self.stage, k + 1);
@@ -29,18 +29,19 @@ impl State {
         ensures { self.new ≡ field_byte self.old b }
     {
         if b == b'-' {
-            if self.minus || self.digit {
+            if self.minus || self.value.is_some() {
                 self.refuse();
             } else {
                 self.sign();
             }
             return;
         }
-        if !b.is_ascii_digit() || 100_000_000 < self.value {
+        let value = self.value.unwrap_or(0);
+        if !b.is_ascii_digit() || 100_000_000 < value {
             self.refuse();
             return;
         }
-        let v = self.value * 10 + u64::from(b - b'0');
+        let v = value * 10 + u64::from(b - b'0');
         if v <= 1_000_000_000 {
             self.grow(v);
         } else {
@@ -53,14 +54,11 @@ impl State {
     fn field_sign(&self) -> Sign
         ensures { result ≡ field_sign self.now }
     {
-        if self.digit && self.minus && self.value != 0 {
-            Sign::Negative
-        } else if self.digit {
-            Sign::Natural
-        } else if self.minus {
-            Sign::Dash
-        } else {
-            Sign::Empty
+        match self.value {
+            Some(v) if self.minus && v != 0 => Sign::Negative,
+            Some(_) => Sign::Natural,
+            None if self.minus => Sign::Dash,
+            None => Sign::Empty,
         }
     }
 
@@ -87,7 +85,7 @@ impl Reader {
             return;
         }
         let field = Field {
-            size: s.value,
+            size: s.value.unwrap_or(0),
             sign: s.field_sign(),
         };
         put(&mut self.fields, s.k, field);
@@ -99,6 +97,7 @@ impl Reader {
     }
 
     // One byte by its stage.
+    // Kept as it is: a match over the stages, which are an enum. A closure or a dyn value for each would be made and called for every byte of a text.
     #[tactic(auto, unfolding(crate::specs::Machine::lexed, crate::specs::Machine::lexed_fields, crate::specs::Form::setting_names, crate::specs::Form::fix_names))]
     pub(crate) fn lex(&mut self, b: u8)
         ensures state { self.new.state ≡ lexed self.old.state b }

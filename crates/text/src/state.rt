@@ -12,17 +12,14 @@ pub enum Stage {
     Outside,
 }
 
-// k: the byte of the names, or the field; the settings are fields 0 to 6, a fix 7 to 10. minus, digit, value: of the field so far. fixes: their number, up
-// to 769. traces: their number. len: the number of fixes in the last trace.
-// Kept as it is: `digit` beside `value`. Where there is no digit yet, `value` is read as 0: by the next digit, by the bound before it, and as the size of an
-// empty field. An `Option<u64>` would be `unwrap_or(0)` at each of these, and `is_some()` at each place that now reads `digit`.
+// k: the byte of the names, or the field; the settings are fields 0 to 6, a fix 7 to 10. minus, value: of the field so far; there is no value before its
+// first digit. fixes: their number, up to 769. traces: their number. len: the number of fixes in the last trace.
 #[derive(Clone, Copy, Debug, PartialEq, Eq)]
 pub struct State {
     pub stage: Stage,
     pub k: usize,
     pub minus: bool,
-    pub digit: bool,
-    pub value: u64,
+    pub value: Option<u64>,
     pub fixes: usize,
     pub traces: u64,
     pub len: u32,
@@ -38,8 +35,7 @@ impl State {
             stage: Stage::SettingNames,
             k: 0,
             minus: false,
-            digit: false,
-            value: 0,
+            value: None,
             fixes: 0,
             traces: 0,
             len: 0,
@@ -62,8 +58,7 @@ impl State {
         self.stage = stage;
         self.k = k;
         self.minus = false;
-        self.digit = false;
-        self.value = 0;
+        self.value = None;
     }
 
     // A minus.
@@ -79,8 +74,7 @@ impl State {
     pub fn grow(&mut self, value: u64)
         ensures { self.new ≡ grown self.old value }
     {
-        self.digit = true;
-        self.value = value;
+        self.value = Some(value);
     }
 
     // Whether the text may end here.
@@ -88,6 +82,6 @@ impl State {
     pub fn ended(&self) -> bool
         ensures { result ≡ Machine·ended self.now }
     {
-        self.stage == Stage::Fixes && self.k == 7 && !self.minus && !self.digit
+        self.stage == Stage::Fixes && self.k == 7 && !self.minus && self.value.is_none()
     }
 }

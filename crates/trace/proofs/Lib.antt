@@ -1,4 +1,4 @@
 pub mod Fixes
-pub mod Marks
 pub mod Parts
+pub mod Placed
 pub mod WithoutEmpty

@@ -2,4 +2,5 @@ pub mod Trace
 pub mod WithoutEmpty
 pub mod Given
 pub mod Steps
+pub mod StepsTraces
 pub mod Examples

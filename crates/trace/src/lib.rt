@@ -1,10 +1,16 @@
 // Tracks and traces as columns in the caller's slices. What a fix and a trace are is in specs/Trace.antt.
 #![tactic(auto)]
 
-ghost use Rattle.std.specs.Prelude.{◌≡◌, ◌+◌, ◌≤◌, length, take, drop};
-ghost use Rattle.trace.specs.Steps.{all_marked, EvenTracks};
+pub mod agreed;
+pub mod columns;
+pub mod traces;
 
-// The fixes of one trace: a coordinate, a time and a time mark of each, in a column of each kind.
+ghost use Rattle.std.specs.Prelude.{◌≡◌, length};
+ghost use Rattle.trace.specs.Steps.{all_marked};
+
+use distance::Points;
+
+// The fixes of one trace: x, y, a time and a time mark of each, in a column of each kind.
 #[derive(Clone, Copy, Debug, PartialEq)]
 pub struct Trace<'a> {
     pub xs: &'a [f64],
@@ -17,6 +23,8 @@ pub struct Trace<'a> {
 }
 
 // The fixes of all traces one after the other, likewise, and how many of them each trace has.
+// Kept as it is: whoever has the columns of a trace, or more fixes than the tracks, writes out the five fields. A method for it would need a clause for each
+// column, which a literal says by itself.
 #[derive(Clone, Copy, Debug, PartialEq)]
 pub struct Tracks<'a> {
     pub xs: &'a [f64],
@@ -26,27 +34,23 @@ pub struct Tracks<'a> {
     pub lens: &'a [u32],
 }
 
-impl<'a> Tracks<'a> {
-    ghost use Rattle.trace.specs.Given.{fixes_of, fixes_in};
+impl<'a> Trace<'a> {
+    ghost use Rattle.distance.specs.Distance.{points};
+    ghost use Rattle.distance.specs.Steps.{points_of};
 
-    // The n fixes from `at`.
-    #[tactic(auto, using(crate::proofs::Parts::fixes_lent))]
-    pub fn part(self, at: usize, n: usize) -> Trace<'a>
-        requires { EvenTracks self × (at + n ≤ length self.xs.now) }
-        ensures fixes { fixes_of result ≡ take n (drop at (fixes_in self.entry)) }
-        ensures count { length result.xs.now ≡ n }
+    // The points of its fixes.
+    pub fn points(self) -> Points<'a>
+        ensures { points_of result ≡ points self.entry.xs.now self.entry.ys.now }
     {
-        let end = at + n;
-        Trace {
-            xs: &self.xs[at..end],
-            ys: &self.ys[at..end],
-            times: &self.times[at..end],
-            marks: &self.marks[at..end],
+        Points {
+            xs: self.xs,
+            ys: self.ys,
         }
     }
 }
 
 // Whether all marks are 1.
+#[tactic(auto, unfolding(crate::specs::Steps::all_marked))]
 pub fn all_marked(marks: &[u8]) -> bool
     ensures { result ≡ all_marked marks.now }
 {

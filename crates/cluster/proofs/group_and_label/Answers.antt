@@ -16,18 +16,20 @@ front k h = length-take-le k (replicate 512 0) h
 pub label_places-requires : goal.label_places-requires
 label_places-requires c =
     let p = c.requires in
+    let a = c.args.linked in
     let g = c.run_infomap-kept in
-    let long : length g.new.labels ≡ length c.args.linked.now = g.auto.labels ∙ front _ (omega (arith, p.3.few, p.0)) in (
-      omega (arith, p.2, p.0),
-      rw (take_at g.new.labels _ _ long) (omega (arith, labels_few _ _ _ g.ensures, long, p.3.few, p.0)),
+    let long : length g.new.labels ≡ length a.numbers.now = g.auto.labels ∙ front _ (omega (arith, a.rise.few, a.few)) in (
+      omega (arith, p.1, a.few),
+      rw (take_at g.new.labels _ _ long) (omega (arith, labels_few _ _ _ g.ensures, long, a.rise.few, a.few)),
     )
 
 pub returns : goal.returns
 returns c =
     let p = c.requires in
+    let a = c.args.linked in
     let g = c.run_infomap-kept in
-    let room = front (length c.args.linked.now) (omega (arith, p.3.few, p.0)) in
-    λ dist r2 ps e w q. cluster_is dist r2 ps _ _ _ q (p.2 ∙ sym e)
+    let room = front (length a.numbers.now) (omega (arith, a.rise.few, a.few)) in
+    λ dist r2 ps e w q. cluster_is dist r2 ps _ _ _ q (p.1 ∙ sym e)
     (g.ensures ∙ ap (λ (x : Network). run_infomap x c.args.seed)
-    (network_front dist r2 ps _ _ _ _ q p.3 w c.compact.ensures (c.compact.auto.table ∙ p.1) room))
+    (network_front dist r2 ps _ _ _ _ q a.rise w c.compact.ensures (c.compact.auto.table ∙ p.0)))
     (rw (take_at g.new.labels _ _ (g.auto.labels ∙ room)) at c.label_places.ensures)

@@ -21,4 +21,4 @@ returns c =
     rw c.strength.ensures.0
     (node_view c.args.net.now s i.n _ i.q i.exits i.strengths v _ _ pp (ap (λ (x : MapState). x.exits) w) (ap (λ (x : MapState). x.strengths) w) (ap (λ (x : MapState). x.q_sum) w)
     (omega arith) (firsts_of_lem s.partition c.first.result.now c.first.ensures.1 v c.requires.1)
-    (rw (c.partition.ensures.0, c.partition-2.ensures.0, c.exits.ensures.0, c.row.ensures.0) at c.exit_weights-x.ensures))
+    (rw c.exits.ensures.0 at c.exit_of.ensures))

@@ -5,4 +5,4 @@ use Rattle.codelength.specs.Codelength.{exit_from}
 use Rattle.codelength.proofs.exit_weights.Given as goal
 
 abbrev pub invariant-loop-v : goal.invariant-loop-v
-invariant-loop-v l = exit_from l.g l.a (drop l.v l.partition) (drop l.v l.row) ≡ exit_from l.g l.initial.a l.partition l.row
+invariant-loop-v l = exit_from l.g l.a (drop l.v l.row.partition.now) (drop l.v l.row.weights.now) ≡ exit_from l.g l.fn.start l.row.partition.now l.row.weights.now

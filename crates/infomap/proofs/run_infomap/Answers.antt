@@ -13,14 +13,14 @@ use Rattle.infomap.proofs.run_infomap.Goals as goal
 
 pub kept_grouping-k-requires : goal.kept_grouping-k-requires
 kept_grouping-k-requires c =
-    let n = length c.args.labels.now in
-    let e : length (take n (replicate {A = ℕ} 512 0)) ≡ n = length-take-le n (replicate 512 0) (omega (arith, c.requires.wide, c.requires.narrow)) in
-    e ∙ sym (ap (λ (x : Network). length x.strength) c.new-net.ensures ∙ length_network c.args.table.now c.args.stride n)
+    let n = c.args.table.n in
+    let e : length (take n (replicate {A = ℕ} 512 0)) ≡ n = length-take-le n (replicate 512 0) (omega (arith, c.args.table.rows.wide, c.args.table.rows.narrow)) in
+    e ∙ sym (ap (λ (x : Network). length x.strength) c.new-net.ensures ∙ length_network c.args.table.weights.now c.args.table.stride n)
 
 pub returns : goal.returns
 returns c =
-    let k = length c.args.labels.now in
-    let n = network c.args.table.now c.args.stride k in
-    let e : length (take k (replicate {A = ℕ} 512 0)) ≡ k = length-take-le k (replicate 512 0) (omega (arith, c.requires.wide, c.requires.narrow)) in
+    let k = c.args.table.n in
+    let n = network c.args.table.weights.now c.args.table.stride k in
+    let e : length (take k (replicate {A = ℕ} 512 0)) ≡ k = length-take-le k (replicate 512 0) (omega (arith, c.args.table.rows.wide, c.args.table.rows.narrow)) in
     run_is n c.args.seed (grouping_of c.kept_grouping-k.new.best c.kept_grouping-k.result) (c.kept_grouping-k.ensures ∙ ap (λ (x : Network). kept_grouping x c.args.seed) c.new-net.ensures)
     (c.relabel_dense.ensures ∙ ap relabel_dense (take_at c.kept_grouping-k.new.best _ k (c.kept_grouping-k.auto.best ∙ e)))

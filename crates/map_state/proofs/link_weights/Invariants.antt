@@ -5,4 +5,4 @@ use Rattle.map_state.specs.MapState.{link_weights_from, link_weights}
 use Rattle.map_state.proofs.link_weights.Given as goal
 
 abbrev pub invariant-loop-v : goal.invariant-loop-v
-invariant-loop-v l = link_weights_from l.g l.h l.l (drop l.v l.partition) (drop l.v l.row) ≡ link_weights l.g l.h l.partition l.row
+invariant-loop-v l = link_weights_from l.g l.h l.l (drop l.v l.row.partition.now) (drop l.v l.row.weights.now) ≡ link_weights l.g l.h l.row.partition.now l.row.weights.now

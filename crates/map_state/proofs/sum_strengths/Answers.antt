@@ -5,4 +5,4 @@ use Rattle.map_state.proofs.sum_strengths.Goals as goal
 
 pub returns : goal.returns
 returns c =
-    is_strengths _ _ _ _ c.loop-u.invariant.1 (λ k h. c.loop-u.invariant.0 k (omega arith))
+    is_strengths _ _ _ _ c.loop-u.u c.loop-u.invariant.1 c.loop-u.invariant.0 (omega arith)

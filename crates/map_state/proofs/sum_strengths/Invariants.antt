@@ -9,5 +9,4 @@ use Rattle.map_state.proofs.sum_strengths.Given as goal
 
 abbrev pub invariant-loop-u : goal.invariant-loop-u
 invariant-loop-u l =
-    ((k : ℕ) → k < l.u → get_or l.strength k nan ≡ add_weights zero64 (row_at l.table l.stride (length l.initial.strength) k)) × (length l.strength ≡ length l.initial.strength) ×
-    (l.n ≡ length l.initial.strength)
+    ((k : ℕ) → k < l.u → get_or l.strength k nan ≡ add_weights zero64 (row_at l.table.weights.now l.table.stride l.table.n k)) × (length l.strength ≡ l.table.n)

@@ -5,4 +5,4 @@ use Rattle.map_state.specs.Network.{total_from, total_weight}
 use Rattle.map_state.proofs.total_weight.Given as goal
 
 abbrev pub invariant-loop-u : goal.invariant-loop-u
-invariant-loop-u l = total_from l.table l.stride l.n l.t l.u (l.n - l.u) ≡ total_weight l.table l.stride l.n
+invariant-loop-u l = total_from l.table.weights.now l.table.stride l.table.n l.t l.u (l.table.n - l.u) ≡ total_weight l.table.weights.now l.table.stride l.table.n

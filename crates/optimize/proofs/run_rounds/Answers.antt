@@ -1,5 +1,5 @@
 -- `optimize::run_rounds` meets its contract. The loop: the rounds that are left, from the state so far, give the whole run. Numbers grow by 512 a round.
-use mathlib.Core.Path.{sym, ◌∙◌, ap}
+use mathlib.Core.Path.{◌∙◌, ap}
 use native.Mathlib.Omega.{arith}
 use Prim.Native.Nat.{◌+◌, ◌*◌, ◌≤◌}
 use lib.ListN.{length}
@@ -8,19 +8,6 @@ use Rattle.optimize.specs.Steps.{run_of}
 use Rattle.optimize.proofs.Numbers.{at_most_more}
 use Rattle.optimize.proofs.Rounds.{rounds_on, rounds_rest, rounds_end, run_at_most, run_counts, visits_on, visits_rest, visits_end, round_length}
 use Rattle.optimize.proofs.run_rounds.Goals as goal
-
-pub round-requires : goal.round-requires
-round-requires c =
-    let l = c.loop in
-    let v = l.invariant in (
-      (
-        c.requires.0.0 ∙ sym v.long,
-        v.room ∙ c.requires.0.1 ∙ sym v.long,
-        omega (arith, v.room, c.requires.0.2),
-        at_most_more (512 + 512 * l.counter) 800000 l.r.state.partition (omega (arith, c.loop-test.true)) v.most,
-      ),
-      omega (arith, v.count, c.loop-test.true),
-    )
 
 pub returns-then-not-r : goal.returns-then-not-r
 returns-then-not-r c =

@@ -1,18 +1,9 @@
 -- `replay_case::read_fixes` meets its contract: the fixes so far are in the columns.
 use Rattle.std.proofs.Common.{◌+◌, ◌*◌, refl, ap, ◌∙◌, arith}
-use Rattle.replay.proofs.Past.{past_none, past_on, read_at}
+use Rattle.replay.proofs.Past.{past_on, read_at}
 use Rattle.replay_case.specs.Case.{mark_of}
-use Rattle.replay_case.proofs.Read.{filled_none, filled_on, float_read}
+use Rattle.replay_case.proofs.Read.{filled_on, float_read}
 use Rattle.replay_case.proofs.read_fixes.Goals as goal
-
-pub loop-i-init : goal.loop-i-init
-loop-i-init c = record {
-  xs_read = filled_none _ _;
-  ys_read = filled_none _ _;
-  marks_read = filled_none _ _;
-  times_read = filled_none _ _;
-  place = past_none _;
-}
 
 pub loop-i-preserved : goal.loop-i-preserved
 loop-i-preserved c =

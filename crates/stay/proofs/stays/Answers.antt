@@ -2,17 +2,15 @@
 use mathlib.Core.Path.{refl, sym, ap, ◌∙◌, subst}
 use Prim.Native.Nat.{◌+◌, ◌*◌, ◌/◌, ◌≤◌, ◌<◌}
 use native.Mathlib.Omega.{arith}
-use lib.ListN.{length, get_or}
-use lib.Ieee.{nan}
+use lib.ListN.{length}
 use Rattle.distance.specs.declared.Point.{Point}
 use Rattle.distance.specs.Distance.{euclidean}
-use Rattle.stay.specs.StepsOrdered.{in_order}
 use Rattle.trace.specs.Given.{fixes_of}
 use Rattle.trace.specs.Steps.{all_marked}
+use Rattle.stay.specs.StepsRegions.{insert_both}
 use Rattle.stay.specs.Steps.{state_of, step}
 use Rattle.stay.proofs.States.{if_handed, step_seen, closed_seen}
-use Rattle.stay.proofs.Whole.{Sound, sound_step, sound_first, run_on, point_is, last_state, enough, whole, nothing}
-use borrow.Author.Rules.{rules}
+use Rattle.stay.proofs.Whole.{Sound, sound_step, sound_first, run_on, read_is, point_is, last_state, enough, whole, nothing}
 use Rattle.stay.proofs.stays.Goals as goal
 
 pub returns-then-n-eq0 : goal.returns-then-n-eq0
@@ -21,16 +19,13 @@ returns-then-n-eq0 c =
     nothing a.s a.t.xs.now a.t.ys.now a.t.times.now a.t.marks.now a.found a.work.now a.events.now c.if-n-eq0.true
     (omega (arith, c.requires.events_length, c.if-n-eq0.true))
 
-pub insert_both-requires : goal.insert_both-requires
-unfolding in_order
-insert_both-requires c = search rules
-
 pub loop-i-init : goal.loop-i-init
 loop-i-init c =
     let a = c.args in
-    let p = c.requires in (
+    let p = c.requires in
+    let first = c.at.ensures ∙ read_is a.s a.t.xs.now a.t.ys.now a.t.times.now a.t.marks.now a.t.ys_length a.t.times_length a.t.marks_length a.found 0 (omega arith) _ c.points-points.ensures in (
       refl,
-      rw c.insert_both.ensures
+      rw (c.insert_both.ensures, first)
           (sound_first a.s a.t.xs.now a.t.ys.now a.t.times.now a.t.marks.now a.t.ys_length a.t.times_length a.t.marks_length
           a.found (omega arith) (length a.work.now / 4) a.work.now a.events.now (omega arith) (omega arith)),
     )
@@ -64,16 +59,16 @@ loop-i-preserved c =
     let q = length a.work.now / 4 in
     let st = state_of q l.i l.work l.events l.o in
     let tm = all_marked a.t.marks.now in
+    let read = c.at-in-loop-i.ensures ∙ read_is a.s a.t.xs.now a.t.ys.now a.t.times.now a.t.marks.now a.t.ys_length a.t.times_length a.t.marks_length a.found l.i c.loop-i-test.true _ c.points-points.ensures in
     let e = c.next-o.ensures ∙ step_seen a.t.times c.all_marked.ensures c.then_some.ensures euclidean a.s _ l.i st in (
       run_on euclidean a.s tm a.t.times.now (fixes_of a.t) l.i (length a.t.xs.now) st
           _ c.loop-i-test.true
           (e ∙ ap (λ (z : Point). step euclidean a.s tm a.t.times.now z l.i st)
-          (point_is a.s a.t.xs.now a.t.ys.now a.t.times.now a.t.marks.now a.t.ys_length a.t.times_length a.t.marks_length
+          (read ∙ point_is a.s a.t.xs.now a.t.ys.now a.t.times.now a.t.marks.now a.t.ys_length a.t.times_length a.t.marks_length
           a.found l.i c.loop-i-test.true))
           ∙ l.invariant.0,
       subst (Sound a.found (l.i + 1)) (sym e)
-          (sound_step euclidean a.s tm a.t.times.now (record { x = get_or a.t.xs.now l.i nan; y = get_or a.t.ys.now l.i nan })
-          a.found l.i st l.invariant.1),
+          (sound_step euclidean a.s tm a.t.times.now c.at-in-loop-i.result a.found l.i st l.invariant.1),
     )
 
 pub close-last-requires : goal.close-last-requires
@@ -98,6 +93,8 @@ overflow_sub-result c =
     let p = c.requires in
     let l = c.loop-i in
     let some_fix : 0 < length a.t.xs.now = omega (arith, c.if-n-eq0.false) in
+    let first = c.at.ensures ∙ read_is a.s a.t.xs.now a.t.ys.now a.t.times.now a.t.marks.now a.t.ys_length a.t.times_length a.t.marks_length a.found 0 some_fix _ c.points-points.ensures in
+    let inserted = c.insert_both.ensures ∙ ap (λ (z : Point). insert_both (length a.work.now / 4) 0 z.x z.y a.work.now) first in
     let some_room : 0 < length a.work.now / 4 = omega (arith, p.room, some_fix) in
     let fits : 4 * (length a.work.now / 4) ≤ length a.work.now = omega arith in
     enough a.s a.t.xs.now a.t.ys.now a.t.times.now a.t.marks.now a.t.ys_length a.t.times_length a.t.marks_length a.found
@@ -105,7 +102,7 @@ overflow_sub-result c =
     c.close-last.new.events c.close-last.result (last_state a.s a.t.xs.now a.t.ys.now a.t.times.now a.t.marks.now a.t.ys_length a.t.times_length a.t.marks_length a.found
     some_fix (length a.work.now / 4) a.work.now a.events.now some_room fits (all_marked a.t.marks.now)
     c.insert_both.new.work l.work _ l.events _ l.o c.close-last.result l.i
-    refl c.insert_both.ensures c.loop-i-test.false (omega arith) l.invariant.0
+    refl inserted c.loop-i-test.false (omega arith) l.invariant.0
     (c.close-last.ensures ∙ closed_seen a.t.times c.all_marked.ensures c.then_some.ensures a.s _ _))
 
 pub returns : goal.returns
@@ -114,6 +111,8 @@ returns c =
     let p = c.requires in
     let l = c.loop-i in
     let some_fix : 0 < length a.t.xs.now = omega (arith, c.if-n-eq0.false) in
+    let first = c.at.ensures ∙ read_is a.s a.t.xs.now a.t.ys.now a.t.times.now a.t.marks.now a.t.ys_length a.t.times_length a.t.marks_length a.found 0 some_fix _ c.points-points.ensures in
+    let inserted = c.insert_both.ensures ∙ ap (λ (z : Point). insert_both (length a.work.now / 4) 0 z.x z.y a.work.now) first in
     let some_room : 0 < length a.work.now / 4 = omega (arith, p.room, some_fix) in
     let fits : 4 * (length a.work.now / 4) ≤ length a.work.now = omega arith in
     whole a.s a.t.xs.now a.t.ys.now a.t.times.now a.t.marks.now a.t.ys_length a.t.times_length a.t.marks_length a.found
@@ -123,5 +122,5 @@ returns c =
     (omega (arith, c.close-last.auto.events, p.events_length)) (last_state a.s a.t.xs.now a.t.ys.now a.t.times.now a.t.marks.now a.t.ys_length a.t.times_length a.t.marks_length a.found
     some_fix (length a.work.now / 4) a.work.now a.events.now some_room fits (all_marked a.t.marks.now)
     c.insert_both.new.work l.work _ l.events _ l.o c.close-last.result l.i
-    refl c.insert_both.ensures c.loop-i-test.false (omega arith) l.invariant.0
+    refl inserted c.loop-i-test.false (omega arith) l.invariant.0
     (c.close-last.ensures ∙ closed_seen a.t.times c.all_marked.ensures c.then_some.ensures a.s _ _))

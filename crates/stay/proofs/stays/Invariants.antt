@@ -11,6 +11,6 @@ use Rattle.stay.proofs.stays.Given as goal
 
 abbrev pub invariant-loop-i : goal.invariant-loop-i
 invariant-loop-i l =
-    (run euclidean l.s (all_marked l.t.marks.now) l.t.times.now (fixes_of l.t) l.i (l.n - l.i) (state_of l.q l.i l.work l.events l.o) ≡ run euclidean l.s (all_marked l.t.marks.now) l.t.times.now
+    (run euclidean l.fn.s (all_marked l.t.marks.now) l.t.times.now (fixes_of l.t) l.i (l.n - l.i) (state_of l.q l.i l.work l.events l.o) ≡ run euclidean l.fn.s (all_marked l.t.marks.now) l.t.times.now
     (fixes_of l.t) 1 (l.n - 1) (state_of l.q 1 l.initial.work l.initial.events l.initial.o))
     × Sound l.found l.i (state_of l.q l.i l.work l.events l.o)

@@ -6,4 +6,4 @@ use Rattle.checks.specs.Steps.{columns_in_order}
 use Rattle.checks.proofs.one_trace.in_time_order.Given as goal
 
 abbrev pub invariant-loop-i : goal.invariant-loop-i
-invariant-loop-i l = (columns_in_order (drop (l.i - 1) l.times) (drop (l.i - 1) l.marks) ≡ columns_in_order l.times l.marks) × (1 ≤ l.i)
+invariant-loop-i l = (columns_in_order (drop (l.i - 1) l.t.times.now) (drop (l.i - 1) l.t.marks.now) ≡ columns_in_order l.t.times.now l.t.marks.now) × (1 ≤ l.i)

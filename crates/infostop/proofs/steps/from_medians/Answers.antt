@@ -15,7 +15,7 @@ returns-in_err-found c ts f =
 pub label_tracks-requires : goal.label_tracks-requires
 label_tracks-requires c =
     let p = c.requires in
-    asked _ _ _ _ _ p.0 p.1 _ _ c.medians.ensures.1 _ (sym c.in_ok-found.was ∙ c.find_places.ensures)
+    asked _ _ _ _ _ p.0 p.1 _ c.medians.ensures.1 _ (sym c.in_ok-found.was ∙ c.find_places.ensures)
 
 pub returns-in_err-labelled : goal.returns-in_err-labelled
 returns-in_err-labelled c ts f =

@@ -10,4 +10,4 @@ returns c =
     let i = c.self.inside in
     let p = length-take-le i.n i.partition (omega arith) in
     let f = length-take-le i.n i.first (omega arith) in
-    rw (← c.self.view_is) (f ∙ sym p, firsts_front i.n _ i.first (omega arith) c.self.invariant.1)
+    rw (← c.self.view_is) (f ∙ sym p, firsts_front i.n _ i.first (omega arith) c.self.invariant.1, omega (arith, f))

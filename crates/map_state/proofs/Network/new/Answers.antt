@@ -1,4 +1,5 @@
 -- `map_state::Network::new` meets its contract.
+use mathlib.Core.Path.{◌∙◌}
 use native.Mathlib.Omega.{arith}
 use lib.ListN.{replicate}
 use lib.Seq.{length-take-le}
@@ -8,5 +9,6 @@ use Rattle.map_state.proofs.Network.new.Goals as goal
 
 pub returns : goal.returns
 returns c =
-    let a = c.args in
-    network_is a.table.now a.stride a.n _ _ _ (length-take-le a.n (replicate 512 zero64) (omega (arith, c.requires.wide, c.requires.narrow))) c.sum_strengths.auto.strength c.sum_strengths.ensures c.total_weight-d.ensures
+    let a = c.args.table in
+    network_is a.weights.now a.stride a.n _ _
+    (c.sum_strengths.auto.strength ∙ length-take-le a.n (replicate 512 zero64) (omega (arith, a.rows.wide, a.rows.narrow))) c.sum_strengths.ensures c.total_weight-d.ensures

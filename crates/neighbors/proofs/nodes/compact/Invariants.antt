@@ -5,4 +5,4 @@ use Rattle.neighbors.specs.StepsTables.{Compacted}
 use Rattle.neighbors.proofs.nodes.compact.Given as goal
 
 abbrev pub invariant-loop-u : goal.invariant-loop-u
-invariant-loop-u l = Compacted l.n l.nodes l.initial.table l.table (l.u * length l.nodes)
+invariant-loop-u l = Compacted l.nodes.n l.nodes.numbers.now l.initial.table l.table (l.u * length l.nodes.numbers.now)

@@ -4,4 +4,4 @@ use Rattle.neighbors.proofs.Compact.{compact_on}
 use Rattle.neighbors.proofs.nodes.compact_row.Goals as goal
 
 pub loop-v-preserved : goal.loop-v-preserved
-loop-v-preserved c = λ t h. compact_on _ _ c.requires.3 _ _ c.requires.2 c.loop-v-test.true t _ (c.loop-v.invariant t h) (omega arith)
+loop-v-preserved c = λ t h. compact_on _ _ c.args.nodes.rise _ _ c.requires.1 c.loop-v-test.true t _ (c.loop-v.invariant t h) (omega arith)

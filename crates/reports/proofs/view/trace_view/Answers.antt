@@ -1,11 +1,8 @@
 -- `reports::view::trace_view` meets its contract.
 use mathlib.Core.Path.{refl}
 use borrow.Author.Rules.{rules}
-use Rattle.reports.proofs.ViewParts.{view_refused, view_given}
+use Rattle.reports.proofs.ViewParts.{view_given}
 use Rattle.reports.proofs.view.trace_view.Goals as goal
 
 pub returns-in-Ok : goal.returns-in-Ok
 returns-in-Ok c = view_given _ c.in-Ok.ensures c.trace_start-from.ensures refl (search rules) (search rules)
-
-pub returns-in-Err : goal.returns-in-Err
-returns-in-Err c = view_refused c.in-Err.ensures refl (search rules) (search rules)

@@ -1,61 +1,62 @@
--- `stay::all::all_stays` meets its contract. The invariant is `Reached` of `proofs/AllStays.antt`, and that the traces left end with the columns.
-use mathlib.Core.Path.{◌≡◌, subst}
-use mathlib.Core.List.{List}
-use Prim.Native.Nat.{ℕ}
+-- `stay::all::all_stays` meets its contract.
+use mathlib.Core.Path.{◌≡◌, ap, ◌∙◌}
+use mathlib.Core.List.{[]}
+use Prim.Native.Nat.{◌+◌}
 use native.Mathlib.Omega.{arith}
-use lib.IntN.{ℤ}
-use lib.Ieee.{Float}
-use Rattle.settings.specs.declared.config.Config.{Config}
-use Rattle.trace.specs.Trace.{Fix, traces}
+use borrow.Author.Rules.{rules}
+use lib.ListN.{length}
+use Rattle.lists.proofs.Parts.{lent_length}
 use Rattle.trace.specs.Given.{fixes_in}
+use Rattle.trace.specs.StepsTraces.{placed, left}
 use Rattle.trace.proofs.Fixes.{fixes_length}
-use Rattle.trace.proofs.Parts.{total_drop}
-use Rattle.stay.specs.StepsFound.{Found}
-use Rattle.stay.specs.StepsAll.{AllFound}
-use Rattle.stay.proofs.AllStays.{reached_first, few_on, reached_on, reached_end}
+use Rattle.trace.proofs.Placed.{placed_traces}
+use Rattle.stay.proofs.AllStays.{traces_in, follow_placed, reached_first, lies, goes_on, all_found}
 use Rattle.stay.proofs.all.all_stays.Goals as goal
 
--- What `stays` found in the part, of the trace that lies there.
-found_as : {s : Config} {t u : List Fix} {found r : ℕ} {w v : List Float} {e : List ℤ} → t ≡ u → Found s t found w v e r → Found s u found w v e r
-found_as {s} {t} {u} {found} {r} {w} {v} {e} p = subst (λ (x : List Fix). Found s x found w v e r) p
-
-pub loop-len-init : goal.loop-len-init
-loop-len-init c =
+pub loop-at-init : goal.loop-at-init
+loop-at-init c =
     let a = c.args in
-    let p = c.requires in
-    let long = fixes_length a.t.xs.now a.t.ys.now a.t.times.now a.t.marks.now p.ys_length p.times_length p.marks_length in
-    (reached_first _ _ _ _ _ (omega (arith, p.sum)), omega (arith, p.sum))
+    let t = a.t.tracks in
+    let fs = fixes_in t in
+    let long = fixes_length t.xs.now t.ys.now t.times.now t.marks.now a.t.ys_length a.t.times_length a.t.marks_length in
+    let all : left c.into_iter-at-iterator.result ≡ placed 0 t.lens.now fs = rw c.into_iter-at-iterator.ensures.into_iter_gives c.traces-at-items.ensures in (
+      0,
+      reached_first a.s _ _ _ _ _ (rw all (follow_placed 0 _ t.lens.now fs (omega (arith, a.t.sum)) (omega arith))) (ap traces_in all ∙ placed_traces 0 t.lens.now fs),
+    )
+
+pub overflow_add-end : goal.overflow_add-end
+overflow_add-end c =
+    let h = lies _ _ _ _ _ _ _ c.in-Some.trace _ _ c.in-Some.ensures.steps c.loop-at.invariant in
+    omega (arith, h.0, c.requires.few)
+
+pub offset_bounds-events-at : goal.offset_bounds-events-at
+offset_bounds-events-at c =
+    let h = lies _ _ _ _ _ _ _ c.in-Some.trace _ _ c.in-Some.ensures.steps c.loop-at.invariant in
+    omega (arith, h.0, c.requires.few)
+
+pub slice_bounds-stays-end : goal.slice_bounds-stays-end
+slice_bounds-stays-end c =
+    let h = lies _ _ _ _ _ _ _ c.in-Some.trace _ _ c.in-Some.ensures.steps c.loop-at.invariant in
+    search (rules, h)
+
+pub stays-found-requires : goal.stays-found-requires
+stays-found-requires c =
+    let h = lies _ _ _ _ _ _ _ c.in-Some.trace _ _ c.in-Some.ensures.steps c.loop-at.invariant in
+    record {
+      events_length = omega (arith, lent_length c.in-Some.at (c.in-Some.at + length c.in-Some.trace.xs.now) c.loop-at.events (omega arith) (omega (arith, h.0, c.requires.events_length)));
+      room = omega (arith, h.0, h.1, c.requires.work_length);
+      numbers = omega (arith, h.0, h.1, c.requires.few);
+    }
 
 pub overflow_add-found : goal.overflow_add-found
 overflow_add-found c =
-    let a = c.args in
-    let l = c.loop-len in
-    let p = c.requires in
-    let long = fixes_length a.t.xs.now a.t.ys.now a.t.times.now a.t.marks.now p.ys_length p.times_length p.marks_length in
-    omega (
-      arith,
-      total_drop a.t.lens.now l.len-index c.loop-len-test.true,
-      few_on a.s a.t.lens.now _ l.len-index l.at l.found l.work l.events l.invariant.0 c.loop-len-test.true (omega arith) (omega arith) _ _ l.events _
-          (found_as c.part.ensures.fixes c.stays-found.ensures),
-    )
+    let h = goes_on _ _ _ _ _ _ _ c.in-Some.trace _ _ c.in-Some.ensures.steps c.loop-at.invariant (omega (arith, c.requires.work_length)) (omega (arith, c.requires.events_length)) _ _ [] _ c.stays-found.ensures in
+    omega (arith, h.1, c.requires.few)
 
-pub loop-len-preserved : goal.loop-len-preserved
-loop-len-preserved c =
-    let a = c.args in
-    let l = c.loop-len in
-    let p = c.requires in
-    let long = fixes_length a.t.xs.now a.t.ys.now a.t.times.now a.t.marks.now p.ys_length p.times_length p.marks_length in (
-      reached_on a.s a.t.lens.now _ l.len-index l.at l.found l.work l.events l.invariant.0 c.loop-len-test.true (omega arith) (omega arith) _ _ _ _
-          (found_as c.part.ensures.fixes c.stays-found.ensures),
-      omega (arith, total_drop a.t.lens.now l.len-index c.loop-len-test.true),
-    )
+pub loop-at-preserved : goal.loop-at-preserved
+loop-at-preserved c =
+    let h = goes_on _ _ _ _ _ _ _ c.in-Some.trace _ _ c.in-Some.ensures.steps c.loop-at.invariant (omega (arith, c.requires.work_length)) (omega (arith, c.requires.events_length)) _ _ _ _ c.stays-found.ensures in
+    h.0
 
 pub returns : goal.returns
-returns c =
-    let a = c.args in
-    let l = c.loop-len in
-    let p = c.requires in
-    let fs = fixes_in a.t in
-    let long = fixes_length a.t.xs.now a.t.ys.now a.t.times.now a.t.marks.now p.ys_length p.times_length p.marks_length in
-    subst (λ (n : ℕ). AllFound a.s (traces a.t.lens.now fs) n l.work l.events l.found) long
-    (reached_end a.s a.t.lens.now fs l.len-index l.at l.found l.work l.events l.invariant.0 c.loop-len-test.false (omega arith) (omega arith))
+returns c = all_found _ _ _ _ _ _ _ c.in-None.ensures.steps.0 c.loop-at.invariant (omega (arith, c.requires.work_length)) (omega (arith, c.requires.events_length))

@@ -1,12 +1,9 @@
--- `stay::all::all_stays` meets its contract. The invariant is `Reached` of `proofs/AllStays.antt`, and that the traces left end with the columns.
-use mathlib.Core.Path.{◌≡◌}
-use Prim.Native.Nat.{◌+◌}
-use lib.ListN.{length, drop}
-use Rattle.trace.specs.Trace.{total}
-use Rattle.trace.specs.Given.{fixes_in}
-use Rattle.stay.proofs.AllStays.{Reached}
+-- `stay::all::all_stays` meets its contract. The invariant is `Reached` of `proofs/AllStays.antt`, at the place where the traces that are left begin.
+use lib.ListN.{length}
+use Rattle.trace.specs.Given.{traces_of}
+use Rattle.trace.specs.StepsTraces.{left}
+use Rattle.stay.proofs.AllStays.{Somewhere}
 use Rattle.stay.proofs.all.all_stays.Given as goal
 
-abbrev pub invariant-loop-len : goal.invariant-loop-len
-invariant-loop-len l =
-    Reached l.s l.t.lens.now (fixes_in l.t) l.len-index l.at l.found l.work l.events × (l.at + total (drop l.len-index l.t.lens.now) ≡ length l.t.xs.now)
+abbrev pub invariant-loop-at : goal.invariant-loop-at
+invariant-loop-at l = Somewhere l.s (traces_of l.t.tracks) (length l.t.tracks.xs.now) l.found l.work l.events (left l.at-iterator)

@@ -27,10 +27,6 @@ returns-in_err-check_tracks c =
     (sym c.check_config.ensures ∙ c.in_ok-check_config.was)
     (sym c.check_tracks.ensures ∙ c.in_err-check_tracks.was)))
 
-pub from_tracks-requires : goal.from_tracks-requires
-from_tracks-requires c =
-    sym c.check_tracks.ensures ∙ c.in_ok-check_tracks.was
-
 pub returns : goal.returns
 returns c =
     let a = c.args in

@@ -1,18 +1,16 @@
 -- `print::bytes::Output::put_lines` meets its contract.
 use mathlib.Core.Path.{◌∙◌}
-use Prim.Native.Nat.{◌+◌, ◌-◌}
-use native.Mathlib.Omega.{arith}
 use Rattle.print.proofs.LabelLines.{lines_on, lines_end}
 use Rattle.print.proofs.bytes.Output.put_lines.Goals as goal
 
 pub loop-t-preserved : goal.loop-t-preserved
-loop-t-preserved c = record {
-  same = c.put_trace.ensures.same ∙ c.loop-t.invariant.same;
-  left = lines_on _ _ c.args.lens.now c.args.labels.now c.loop-t.t c.loop-t.i c.min.result
-      (c.loop-t.i + c.min.result - c.loop-t.i) c.loop-t-test.true c.min.ensures
-      c.put_trace.ensures.written (omega arith) c.loop-t.invariant.left;
-  within = omega (arith, c.min.ensures);
-}
+loop-t-preserved c =
+    let e = c.split_at.ensures in
+    record {
+      same = c.put_trace.ensures.same ∙ c.loop-t.invariant.same;
+      left = rw e.back (lines_on _ _ c.args.lens.now c.loop-t.rest.now c.loop-t.t c.min.result c.loop-t-test.true c.min.ensures
+          (rw e.front at c.put_trace.ensures.written) c.loop-t.invariant.left);
+    }
 
 pub returns : goal.returns
 returns c = record {

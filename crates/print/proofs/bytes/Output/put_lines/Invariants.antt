@@ -1,7 +1,6 @@
 -- `print::bytes::Output::put_lines` meets its contract.
 use mathlib.Core.Path.{◌≡◌}
-use Prim.Native.Nat.{◌≤◌}
-use lib.ListN.{length, drop}
+use lib.ListN.{drop}
 use Rattle.print.specs.Lines.{lines}
 use Rattle.print.specs.Steps.{held, pushes}
 use Rattle.print.proofs.bytes.Output.put_lines.Given as goal
@@ -9,6 +8,5 @@ use Rattle.print.proofs.bytes.Output.put_lines.Given as goal
 abbrev pub invariant-loop-t : goal.invariant-loop-t
 invariant-loop-t l = record {
   same : l.self.bytes.ghost_name ≡ l.initial.self.bytes.ghost_name;
-  left : pushes (held l.self) (lines l.t (drop l.t l.lens) (drop l.i l.labels)) ≡ pushes (held l.initial.self) (lines 0 l.lens l.labels);
-  within : l.i ≤ length l.labels;
+  left : pushes (held l.self) (lines l.t (drop l.t l.lens) l.rest) ≡ pushes (held l.initial.self) (lines 0 l.lens l.labels);
 }

@@ -1,0 +1,27 @@
+// The fixes of a case, read into arrays of a fixed size.
+ghost use Rattle.std.specs.Prelude.{◌≡◌, replicate};
+ghost use Rattle.std.specs.Float.{binary64};
+ghost use Rattle.std.specs.Float.Ieee.{of_bits};
+ghost use Rattle.replay_case.specs.Case.{FixesRead};
+
+use replay::Numbers;
+use trace::columns::Columns;
+
+// Reads n fixes; for those past N there is no room, and past those that are read all is 0.
+pub fn read_columns<const N: usize>(list: &mut Numbers, n: usize) -> Columns<N>
+    ensures read { FixesRead list.old.text.now list.old.at n
+        (replicate N (of_bits binary64 0)) (replicate N (of_bits binary64 0)) (replicate N (of_bits binary64 0)) (replicate N 0)
+        result.xs result.ys result.times result.marks list.new.at }
+    ensures text { list.new.text ≡ list.old.text }
+{
+    let mut read = Columns::<N>::filled(0.0, 0);
+    crate::read_fixes(
+        list,
+        n,
+        &mut read.xs,
+        &mut read.ys,
+        &mut read.times,
+        &mut read.marks,
+    );
+    read
+}
