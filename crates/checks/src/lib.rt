@@ -16,7 +16,8 @@ use trace::Tracks;
 use trace::agreed::Agreed;
 
 // The room that a call is lent: the length of the label slice, the number of places, and the lengths of the work slices.
-// Kept as it is: its two callers, the fit and the fit of records, write out which slice is which; a function of the slices would be told the same by place.
+// Kept as it is: the fit, the fit of records and the check for a report, which has no label slice and no places, each write out which number is which. A
+// function of the slices would serve the first two, and be told the same by place.
 #[derive(Clone, Copy, Debug, PartialEq, Eq)]
 pub struct Room {
     pub labels: usize,

@@ -1,44 +1,29 @@
 // The checks of one trace, of number k: 11 to 16.
-ghost use Rattle.std.specs.Prelude.{◌≡◌, not, ◌&&◌, ◌==◌, ◌<◌, length, get_or, Float, Option};
+ghost use Rattle.std.specs.Prelude.{◌≡◌, not, ◌&&◌, ◌==◌, ◌<◌, Float, Option};
 ghost use Rattle.std.specs.List.{list_any};
-ghost use Rattle.std.specs.Float.{nan};
 ghost use Rattle.distance.specs.declared.Point.{Point};
-ghost use Rattle.trace.specs.Trace.{Fix, time_of};
+ghost use Rattle.trace.specs.Trace.{Fix};
 ghost use Rattle.trace.specs.Given.{fixes_of};
 ghost use Rattle.trace.specs.Steps.{all_marked};
 ghost use Rattle.settings.specs.Checks.{Checked, each_of};
-ghost use Rattle.checks.specs.Traces.{check_trace, check_times, check_size};
-ghost use Rattle.checks.specs.Steps.{given, columns_in_order};
+ghost use Rattle.checks.specs.Traces.{in_time_order, check_trace, check_times, check_size};
+ghost use Rattle.trace.specs.StepsFixes.{fix_of};
 
 use distance::Point;
 use settings::refusal::Refusal;
 use trace::Trace;
 
-// The time of fix i. Where its mark is not 1 there is none, and the value is not read: so no `then_some`, which is handed it.
-#[tactic(auto, unfolding(trace::specs::Trace::time_of, crate::specs::Steps::given))]
-fn time_at(t: Trace, i: usize) -> Option<f64>
-    requires { i < length t.xs.now }
-    ensures { given result ≡ time_of (get_or t.entry.marks.now i 0) (get_or t.entry.times.now i nan) }
-{
-    if t.marks[i] == 1 {
-        Some(t.times[i])
-    } else {
-        None
-    }
-}
-
 // A check of each fix, in order, up to the first that is refused.
-#[tactic(auto, using(distance::proofs::Columns::length_points))]
+#[tactic(auto, using(crate::proofs::Columns::fix_end))]
 fn each_fix<F: Fn(Point, Option<f64>) -> Result<(), Refusal>>(
     t: Trace,
     check: F,
 ) -> Result<(), Refusal>
     requires { F.IsAlwaysCallable check }
-    ensures { (h : Fix → Checked) → ((p : Point) (time : Option Float) (r : Checked) → F.post check p time r → r ≡ h record { at = p; time = given time }) → result ≡ each_of h (fixes_of t.entry) }
+    ensures { (h : Fix → Checked) → ((p : Point) (time : Option Float) (r : Checked) → F.post check p time r → r ≡ h (fix_of (p, time))) → result ≡ each_of h (fixes_of t.entry) }
 {
-    let points = t.points();
-    for i in 0..t.xs.len() {
-        check(points.at(i), time_at(t, i))?;
+    for (p, time) in t.fixes() {
+        check(p, time)?;
     }
     Ok(())
 }
@@ -50,20 +35,24 @@ fn partly_marked(marks: &[u8]) -> bool
     !trace::all_marked(marks) && marks.contains(&1)
 }
 
-#[tactic(auto, using(crate::proofs::Columns::order_next, crate::proofs::Columns::order_end))]
+// Whether no time is above the next.
+#[tactic(auto, using(crate::proofs::Columns::order_start, crate::proofs::Columns::order_next, crate::proofs::Columns::order_end), unfolding(trace::specs::StepsFixes::given))]
 fn in_time_order(t: Trace) -> bool
-    ensures { result ≡ columns_in_order t.entry.times.now t.entry.marks.now }
+    ensures { result ≡ in_time_order (fixes_of t.entry) }
 {
-    for i in 1..t.xs.len() {
-        if crate::fix::above(time_at(t, i - 1), time_at(t, i)) {
+    let mut last = None;
+    for (_, time) in t.fixes() {
+        if crate::fix::above(last, time) {
             return false;
         }
+        last = time;
     }
     true
 }
 
 // 14 and 15.
-#[tactic(auto, using(crate::proofs::Columns::partly_columns, crate::proofs::Columns::order_columns), unfolding(crate::specs::Traces::check_times, settings::proofs::Turns::turns))]
+// Kept as it is: a trace and its number are two, here, in `check_trace` and in `check_size`: nothing holds of the one by the other.
+#[tactic(auto, using(crate::proofs::Columns::partly_columns), unfolding(crate::specs::Traces::check_times, settings::proofs::Turns::turns))]
 fn check_times(k: usize, t: Trace) -> Result<(), Refusal>
     ensures { result ≡ check_times k (fixes_of t.entry) }
 {

@@ -24,8 +24,8 @@ fn sums_to(lens: &[u32], n: usize) -> bool
 }
 
 // Whether the other slices have n elements too.
-// Kept as it is: five lengths, here and in `check_lengths`: the records have no columns yet, and hand over n four times. A struct of the five would be made at
-// each of the two calls, and taken apart here.
+// Kept as it is: five lengths, here and in `check_lengths`: the records have no columns yet, and hand over n four times; the view and the sheet have a label
+// slice alone. A struct of the five would be made at each of the three calls, and taken apart here.
 #[tactic(auto, unfolding(crate::specs::Tracks::same_lengths))]
 fn same_lengths(n: usize, ys: usize, times: usize, marks: usize, labels: usize) -> bool
     ensures { result ≡ same_lengths n ys times marks labels }
@@ -79,6 +79,7 @@ pub fn check_work(fixes: usize, room: Room) -> Result<(), Refusal>
 }
 
 // 17: every time mark is 0 or 1.
+#[tactic(auto, using(crate::proofs::MarkLoop::marks_fine))]
 pub fn check_marks(marks: &[u8]) -> Result<(), Refusal>
     ensures { result ≡ each_of check_mark marks.now }
 {

@@ -31,7 +31,7 @@ use Rattle.exact_sums.proofs.Carried.{Carried, carried_afresh, carried_move, cha
 use Rattle.exact_sums.proofs.Renumbered.{match_at, change_like}
 use Rattle.run_laws.specs.KeptTrial.{KeptQuiet}
 use Rattle.run_laws.proofs.Quiet.{trial_keeps, trial_no_moves}
-use Rattle.run_laws.proofs.Answers.{scan_move, scan_none, isolate_move, isolate_none, next_free_above}
+use Rattle.run_laws.proofs.ScanAnswers.{scan_move, scan_none, isolate_move, isolate_none, next_free_above}
 use Rattle.run_laws.proofs.Marks.{TrialAtRest, kept_rest, kept_at_rest}
 use Rattle.cluster.specs.Cluster.{node_network, cluster}
 use Rattle.cluster.proofs.NodeNetwork.{w, node_whole, node_links, d_none, d_some}

@@ -28,7 +28,7 @@ use Rattle.distance.specs.Distance.{Metric, euclidean, points}
 use Rattle.std.specs.Prelude.{Some, None}
 use Rattle.std.specs.Prelude as std
 use Rattle.std.specs.Option.{unwrap_or}
-use Rattle.distance.specs.Steps.{no_point, point_at}
+use Rattle.distance.specs.Steps.{no_point}
 use Rattle.neighbors.specs.Places.{Place, place_of}
 use Rattle.neighbors.specs.StepsPlaces.{place_points, place_found, PlaceFound}
 use Rattle.neighbors.proofs.Within.{length_place_points}
@@ -79,26 +79,27 @@ module _ (es sl : List ℤ) where
 -- ---- the labels of stays
 
 module _ (ms qs : List Point) (pl : List ℤ) where
-  unfoldable pub StaysLabelled : List ℤ → ℕ → Type 0
-  StaysLabelled out i = (ps : List Place) → place_points ps ≡ qs → take i out ++ stay_labels ps pl (drop i ms) ≡ stay_labels ps pl ms
+  -- The labels of the first i stays are written; those of the medians in `left` are still to come.
+  unfoldable pub StaysLabelled : List ℤ → ℕ → List Point → Type 0
+  StaysLabelled out i left = (ps : List Place) → place_points ps ≡ qs → take i out ++ stay_labels ps pl left ≡ stay_labels ps pl ms
 
-  pub stays_start : (out : List ℤ) → StaysLabelled out 0
+  pub stays_start : (out : List ℤ) (left : List Point) → left ≡ ms → StaysLabelled out 0 left
   unfolding StaysLabelled
-  stays_start out ps q = refl
+  stays_start out left e ps q = ap (stay_labels ps pl) e
 
-  pub stay_labelled : (out : List ℤ) (i : ℕ) (m : Point) (v : ℤ) → StaysLabelled out i → i < length ms → length out ≡ length ms → m ≡ point_at ms i
-      → ((ps : List Place) → place_points ps ≡ qs → v ≡ label_for ps pl (some m)) → StaysLabelled (set out i v) (i + 1)
+  pub stay_labelled : (out : List ℤ) (i : ℕ) (left rest : List Point) (m : Point) (v : ℤ) → StaysLabelled out i left → left ≡ m ∷ rest
+      → i < length out → ((ps : List Place) → place_points ps ≡ qs → v ≡ label_for ps pl (some m)) → StaysLabelled (set out i v) (i + 1) rest
   unfolding StaysLabelled stay_labels
-  stay_labelled out i m v inv h l is e ps q =
-      written_on out (map label (drop (i + 1) ms)) (map label ms) i v (omega arith) (rw (e ps q, is, add-one i) (rw (drop-cons ms i no_point h) at (inv ps q)))
+  stay_labelled out i left rest m v inv first h e ps q =
+      written_on out (map label rest) (map label ms) i v h (rw (e ps q) (rw first at (inv ps q)))
     where
       label : Point → ℤ
       label p = label_for ps pl (some p)
 
-  pub stays_labelled : (out : List ℤ) (i : ℕ) → StaysLabelled out i → length ms ≤ i → length out ≡ length ms
+  pub stays_labelled : (out : List ℤ) (i : ℕ) (left : List Point) → StaysLabelled out i left → left ≡ [] → length out ≤ i
       → (ps : List Place) → place_points ps ≡ qs → out ≡ stay_labels ps pl ms
   unfolding StaysLabelled stay_labels
-  stays_labelled out i inv h l ps q = written_end out (map (λ (p : Point). label_for ps pl (some p)) ms) i (omega arith) (rw (drop_of_length-le ms {i = i} h) at (inv ps q))
+  stays_labelled out i left inv e h ps q = written_end out (map (λ (p : Point). label_for ps pl (some p)) ms) i h (rw e at (inv ps q))
 
 -- ---- the labels of the fixes of all traces
 

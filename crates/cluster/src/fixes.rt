@@ -14,6 +14,8 @@ fn label_at(labels: &[i32], i: usize) -> i32
 }
 
 // The label of the place of m, or -1 where it has none.
+// Kept as it is: places and their labels are two, here, in `stay_labels`, in `label_fixes` of infostop and in `label_stays` of reports. Nothing holds of the
+// one by the other, since callers may hand over more labels or fewer, and a struct would be made at two calls and taken apart here.
 // Kept as it is: for no place the label of number `places.len()`, and no match with -1 in it. Tried, and the proof didn't close: `label_for` reads the
 // label of that number too, and callers may hand over more labels than places, since the contract asks nothing of how many they are.
 #[tactic(auto, using(crate::proofs::FixLabels::label_at_place))]
@@ -25,13 +27,15 @@ fn median_label(places: Points, place_labels: &[i32], m: Point) -> i32
 }
 
 // The label of each stay, from its median and the labels of the places.
+// Kept as it is: `out`, and `labels` in `fix_labels`, are written by index. Of what a slice holds after a loop over its `iter_mut` beside another iterator
+// nothing is told, as `renew_first` of map_state has it.
 #[tactic(auto, using(crate::proofs::FixLabels::stays_start, crate::proofs::FixLabels::stay_labelled, crate::proofs::FixLabels::stays_labelled))]
 pub fn stay_labels(medians: Points, places: Points, place_labels: &[i32], out: &mut [i32])
     requires { length out.old ≡ length (points_of medians) }
     ensures { StayLabelsAre (points_of medians.entry) (points_of places.entry) place_labels.now out.new }
 {
-    for i in 0..medians.len() {
-        out[i] = median_label(places, place_labels, medians.at(i));
+    for (i, m) in medians.iter().enumerate() {
+        out[i] = median_label(places, place_labels, m);
     }
 }
 

@@ -11,6 +11,7 @@ fn label_count(groups: &[u32]) -> usize
 }
 
 // The label of node u: its group's; 0 where `groups` ends before it.
+// Kept as it is: `groups` by the index of `nodes`. Nothing is asked of their lengths, and a `zip` would end with the shorter.
 #[tactic(auto, using(crate::proofs::LabelCount::label_le))]
 fn node_label(groups: &[u32], u: usize) -> i32
     requires { label_count groups.now ≤ 512 }

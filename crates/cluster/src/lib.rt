@@ -2,7 +2,7 @@
 // Kept as it is: arrays of fixed size, of which a part is lent, since the project's memory is fixed and it takes no heap.
 #![tactic(auto)]
 
-ghost use Rattle.std.specs.Prelude.{◌≡◌, ◌*◌, ◌≤◌, length};
+ghost use Rattle.std.specs.Prelude.{◌≡◌, ◌*◌, length};
 ghost use Rattle.distance.specs.Distance.{euclidean};
 ghost use Rattle.neighbors.specs.Links.{nodes};
 ghost use Rattle.cluster.specs.Cluster.{cluster};
@@ -17,6 +17,7 @@ pub mod fixes;
 pub mod labels;
 
 // Groups the linked places by their rows and columns of the table of all places, and labels all. The table is work.
+#[tactic(auto, using(crate::proofs::Clustered::front_few, crate::proofs::Clustered::grouped))]
 fn group_and_label(
     table: &mut [f64],
     linked: Nodes,
@@ -41,7 +42,7 @@ fn group_and_label(
 }
 
 // The labels of the places, and the mark, the rounds and the codelength of the kept trial. The table is work.
-#[tactic(auto, using(crate::proofs::FoundNodes::found_nodes, crate::proofs::FoundNodes::found_rise, crate::proofs::FoundNodes::found_room, crate::proofs::FoundNodes::found_length))]
+#[tactic(auto, using(neighbors::proofs::FoundRows::found_rise, neighbors::proofs::FoundRows::found_room, neighbors::proofs::FoundRows::found_length, crate::proofs::FoundNodes::found_nodes))]
 pub fn cluster(
     places: &Places,
     r2: f64,

@@ -1,40 +1,35 @@
 -- How the loops of the sums from_partition go on and end.
 use mathlib.Core.Path.{◌≡◌, refl, sym, ap, ◌∙◌}
 use mathlib.Core.Bool.{cond}
-use mathlib.Core.List.{List, ◌++◌}
+use mathlib.Core.List.{List, [], ◌∷◌, ◌++◌}
 use Prim.Native.Nat.{ℕ, suc, ◌+◌, ◌-◌, ◌<◌, ◌≤◌}
 use native.Mathlib.Numerals.{add-one}
 use native.Mathlib.Nat.{sub-zero}
 use native.Mathlib.Omega.{arith}
 use borrow.Author.Tests.{eq-eqb, ne_eqb}
 use lib.Dec.{eqb}
-use lib.ListN.{length, drop, get_or, set, take, replicate, drop_of_length-le}
+use lib.ListN.{length, drop, get_or, set, take, replicate, length-replicate, drop_of_length-le}
 use lib.Seq.{drop-cons, take-set-lt, take_at, length-take-le}
 use Rattle.std.proofs.lemmas.List.{get_or-take}
 use lib.Ieee.{Float, nan}
 use Rattle.float.specs.Binary64.{add64, div64, zero64}
 use Rattle.float.specs.Ln.{plogp}
 use Rattle.map_state.specs.Network.{Network, row}
-use Rattle.map_state.specs.MapState.{MapState, lowest, leads, sum_q}
+use Rattle.map_state.specs.MapState.{MapState, leads, sum_q}
 use Rattle.map_state.specs.Steps.{Firsts}
 use Rattle.codelength.specs.Steps.{sums_in, with_sums}
 use Rattle.codelength.specs.Codelength.{add_exit, exit_from, Sums, add_node, add_nodes_from, module_sums, sums_of, add_module, terms_from, terms, node_plogp_from, codelength_of, codelength, from_partition}
-use Rattle.map_state.proofs.Leaders.{firsts_of_lem, lowest_of}
+use Rattle.map_state.proofs.Leaders.{firsts_of_lem, slot}
 use Rattle.codelength.specs.declared.Terms.{Terms}
 
--- What is left to add, added to the weight so far, is z: past a node, and at the end.
-pub out_on : (g : ℕ) (a a' : Float) (part : List ℕ) (ws : List Float) (v : ℕ) {z : Float} → exit_from g a (drop v part) (drop v ws) ≡ z → v < length part → length ws ≡ length part
-    → a' ≡ add_exit g a (get_or part v 0) (get_or ws v nan) → exit_from g a' (drop (v + 1) part) (drop (v + 1) ws) ≡ z
+-- What is left to add: the link to the next node first, and nothing past the last.
+pub out_on : (g : ℕ) (a w : Float) (p : ℕ) (part : List ℕ) (ws : List Float) → exit_from g a (p ∷ part) (w ∷ ws) ≡ exit_from g (add_exit g a p w) part ws
 unfolding exit_from
-out_on g a a' part ws v f p e r = (rw (r, add-one v, drop-cons part v 0 p, drop-cons ws v nan (omega arith))) ∙ f
+out_on g a w p part ws = refl
 
-pub out_end : (g : ℕ) (a : Float) (part : List ℕ) (ws : List Float) (v : ℕ) {z : Float} → exit_from g a (drop v part) ws ≡ z → length part ≤ v → a ≡ z
+pub out_end : (g : ℕ) (a : Float) (part : List ℕ) (ws : List Float) → part ≡ [] → exit_from g a part ws ≡ a
 unfolding exit_from
-out_end g a part ws v e p = rw (drop_of_length-le part {i = v} p) at e
-
--- the lowest member of the group of node v, where `first` has it, is a node
-pub slot : (part first : List ℕ) (v : ℕ) → Firsts part first → v < length part → get_or first v 0 < length part
-slot part first v f h = omega (arith, firsts_of_lem part first f v h, lowest_of part v h, h)
+out_end g a part ws e = rw e
 
 pub nodes_added_on : (n : Network) (part : List ℕ) (s : Sums) (v : ℕ) {s' : Sums} → v < length part → s' ≡ add_node n part s v → add_nodes_from n part s' (v + 1) (length part - (v + 1)) ≡ add_nodes_from n part s v (length part - v)
 unfolding add_nodes_from
@@ -52,27 +47,27 @@ pub nodes_added_start : (n : Network) (part : List ℕ) {e s : List Float} → e
 unfolding module_sums
 nodes_added_start n part p q = rw (p, q, sub-zero)
 
-terms_on : (d : Float) (part first : List ℕ) (exit strengths : List Float) (t t' : Terms) (v : ℕ) → Firsts part first → v < length part → t' ≡ cond (eqb (get_or first v 0) v) (add_module d t (get_or exit v nan) (get_or strengths v nan)) t
-    → terms_from d part exit strengths t' (v + 1) (length part - (v + 1)) ≡ terms_from d part exit strengths t v (length part - v)
+terms_on : (d : Float) (part first : List ℕ) (exit strengths : List Float) (t : Terms) (v : ℕ) → Firsts part first → v < length part
+    → terms_from d part exit strengths t v (length part - v) ≡ terms_from d part exit strengths (cond (eqb (get_or first v 0) v) (add_module d t (get_or exit v nan) (get_or strengths v nan)) t) (v + 1) (length part - (v + 1))
 unfolding terms_from leads
-terms_on d part first exit strengths t t' v k h e =
+terms_on d part first exit strengths t v k h =
     let o : length part - v ≡ suc (length part - (v + 1)) = omega arith in
-    rw (o, e, firsts_of_lem part first k v h, add-one v)
+    rw (o, firsts_of_lem part first k v h, add-one v) refl
 
--- The groups whose lowest member is v or higher, added to the terms so far, are z: past a node that leads its group, past another, and at the end.
-pub terms_yes : (d : Float) (part first : List ℕ) (exit strengths : List Float) (t : Terms) (v : ℕ) {z t' : Terms} → terms_from d part exit strengths t v (length part - v) ≡ z → Firsts part first → v < length part → get_or first v 0 ≡ v
-    → t' ≡ add_module d t (get_or exit v nan) (get_or strengths v nan) → terms_from d part exit strengths t' (v + 1) (length part - (v + 1)) ≡ z
-terms_yes d part first exit strengths t v {t' = t'} e k h i p = terms_on d part first exit strengths t t' v k h (rw (eq-eqb _ _ i) p) ∙ e
+-- The groups from node v on, by lowest member: that of v first where v leads it, and none past the last node.
+pub terms_yes : (d : Float) (part first : List ℕ) (exit strengths : List Float) (t : Terms) (v : ℕ) → Firsts part first → v < length part → get_or first v 0 ≡ v
+    → terms_from d part exit strengths t v (length part - v) ≡ terms_from d part exit strengths (add_module d t (get_or exit v nan) (get_or strengths v nan)) (v + 1) (length part - (v + 1))
+terms_yes d part first exit strengths t v k h i = rw (eq-eqb _ _ i) at (terms_on d part first exit strengths t v k h)
 
-pub terms_no : (d : Float) (part first : List ℕ) (exit strengths : List Float) (t : Terms) (v : ℕ) {z : Terms} → terms_from d part exit strengths t v (length part - v) ≡ z → Firsts part first → v < length part → (get_or first v 0 ≡ v → ⊥)
-    → terms_from d part exit strengths t (v + 1) (length part - (v + 1)) ≡ z
-terms_no d part first exit strengths t v e k h i = terms_on d part first exit strengths t t v k h (rw (ne_eqb _ _ i)) ∙ e
+pub terms_no : (d : Float) (part first : List ℕ) (exit strengths : List Float) (t : Terms) (v : ℕ) → Firsts part first → v < length part → (get_or first v 0 ≡ v → ⊥)
+    → terms_from d part exit strengths t v (length part - v) ≡ terms_from d part exit strengths t (v + 1) (length part - (v + 1))
+terms_no d part first exit strengths t v k h i = rw (ne_eqb _ _ i) at (terms_on d part first exit strengths t v k h)
 
-pub terms_end : (d : Float) (part : List ℕ) (exit strengths : List Float) (t : Terms) (v : ℕ) {z : Terms} → terms_from d part exit strengths t v (length part - v) ≡ z → length part ≤ v → t ≡ z
+pub terms_end : (d : Float) (part : List ℕ) (exit strengths : List Float) (t : Terms) (v : ℕ) → length part ≤ v → terms_from d part exit strengths t v (length part - v) ≡ t
 unfolding terms_from
-terms_end d part exit strengths t v e h =
+terms_end d part exit strengths t v h =
     let o : length part - v ≡ 0 = omega arith in
-    rw o at e
+    rw o
 
 pub nodes_on : (d a : Float) (ss : List Float) (v : ℕ) {x : Float} → node_plogp_from d a (drop v ss) ≡ node_plogp_from d zero64 ss → v < length ss → x ≡ plogp (div64 (get_or ss v nan) d)
     → node_plogp_from d (add64 a x) (drop (v + 1) ss) ≡ node_plogp_from d zero64 ss
@@ -86,20 +81,30 @@ nodes_end d a ss v f h = rw (drop_of_length-le ss {i = v} h) at f
 -- ---- the code's arrays, of which the first n places are the state
 
 -- one node, from the code's steps
-pub node_view : (net : Network) (s : MapState) (n : ℕ) (part : List ℕ) (q : Float) (e t : List Float) (v f : ℕ) (x : Float) → part ≡ s.partition → take n e ≡ s.exits → take n t ≡ s.strengths → q ≡ s.q_sum
-    → f < n → f ≡ lowest (get_or s.partition v 0) s.partition → x ≡ exit_from (get_or s.partition v 0) (get_or s.exits f nan) s.partition (row net v)
-    → ◌≡◌ {A = MapState} (record { partition = part; exits = take n (set e f x); strengths = take n (set t f (add64 (get_or t f nan) (get_or net.strength v nan))); q_sum = q })
+pub node_added : (net : Network) (s : MapState) (n : ℕ) (part first : List ℕ) (e t es st : List Float) (q : Float) (v : ℕ) {x : Float}
+    → ◌≡◌ {A = MapState} (record { partition = take n part; exits = take n e; strengths = take n t; q_sum = q }) s → n ≤ length part → Firsts s.partition first → v < length s.partition
+    → es ≡ s.exits → st ≡ net.strength → x ≡ exit_from (get_or s.partition v 0) (get_or es (get_or first v 0) nan) s.partition (row net v)
+    → ◌≡◌ {A = MapState} (record { partition = take n part; exits = take n (set e (get_or first v 0) x); strengths = take n (set t (get_or first v 0) (add64 (get_or t (get_or first v 0) nan) (get_or st v nan))); q_sum = q })
     (with_sums s (add_node net s.partition (sums_in s) v))
 unfolding add_node
-node_view net s n part q e t v f x pp pe pt pq h i p =
-    let o : get_or t f nan ≡ get_or s.strengths f nan = sym (get_or-take n t f nan h) ∙ ap (λ (l : List Float). get_or l f nan) pt in
-    rw (take-set-lt n e f x h, take-set-lt n t f (add64 (get_or t f nan) (get_or net.strength v nan)) h, pp, pe, pt, pq, o, p, i)
+node_added net s n part first e t es st q v {x} w l fs h ee ss p =
+    let f = get_or first v 0 in
+    let pp = ap (λ (z : MapState). z.partition) w in
+    let pe = ap (λ (z : MapState). z.exits) w in
+    let pt = ap (λ (z : MapState). z.strengths) w in
+    let b : f < n = omega (arith, slot s.partition first v fs h, length-take-le n part l, ap length pp) in
+    let o : get_or t f nan ≡ get_or s.strengths f nan = sym (get_or-take n t f nan b) ∙ ap (λ (l : List Float). get_or l f nan) pt in
+    rw (take-set-lt n e f x b, take-set-lt n t f (add64 (get_or t f nan) (get_or st v nan)) b, pp, pe, pt, ap (λ (z : MapState). z.q_sum) w, o, p, ss, ee, firsts_of_lem s.partition first fs v h)
 
--- the first n places, filled with 0
-pub zeros : (xs ys rest : List Float) {m n : ℕ} → m ≡ n → n ≤ length xs → length ys ≡ length (take m xs) → ys ≡ replicate (length (take m xs)) zero64 → take n (ys ++ rest) ≡ replicate n zero64
-zeros xs ys rest {n = n} e h p q =
-    let x : length (take n xs) ≡ n = length-take-le n xs h in
-    take_at ys rest n (p ∙ rw (e, x)) ∙ q ∙ rw (e, x)
+-- the sums before the first node: the first n places are filled with 0
+pub sums_cleared : (net : Network) (s : MapState) (n : ℕ) (part : List ℕ) (e t : List Float) (q : Float) (ps : List ℕ) (xs ys us vs : List Float)
+    → ◌≡◌ {A = MapState} (record { partition = take n part; exits = take n e; strengths = take n t; q_sum = q }) s
+    → n ≤ length part → ps ≡ s.partition → xs ≡ replicate (length ps) zero64 → ys ≡ replicate (length ps) zero64
+    → add_nodes_from net s.partition (sums_of (take n (xs ++ us)) (take n (ys ++ vs))) 0 (length s.partition - 0) ≡ module_sums net s.partition
+sums_cleared net s n part e t q ps xs ys us vs w l f g h =
+    let m : length (replicate (length ps) zero64) ≡ n =
+    length-replicate (length ps) zero64 ∙ ap length f ∙ ap (λ (z : MapState). length z.partition) (sym w) ∙ length-take-le n part l in
+    nodes_added_start net s.partition (take_at xs us n (ap length g ∙ m) ∙ g ∙ rw f) (take_at ys vs n (ap length h ∙ m) ∙ h ∙ rw f)
 
 -- the state from its sums
 pub sums_made : (s t : MapState) (z : Sums) → t.partition ≡ s.partition → t.q_sum ≡ s.q_sum → sums_in t ≡ z → t ≡ with_sums s z

@@ -1,7 +1,7 @@
 // The state of a partition with every sum made afresh, and its codelength.
 #![tactic(auto)]
 
-ghost use Rattle.std.specs.Prelude.{◌≡◌, ◌+◌, ◌-◌, ◌*◌, ◌<◌, length, get_or};
+ghost use Rattle.std.specs.Prelude.{◌≡◌, ◌+◌, ◌-◌, ◌<◌, get_or};
 ghost use Rattle.float.specs.Binary64.{zero64};
 ghost use Rattle.map_state.specs.Network.{row};
 ghost use Rattle.map_state.specs.Steps.{Fits, AtNode};
@@ -30,12 +30,13 @@ fn add_exit(g: u32, a: f64, p: u32, w: f64) -> f64
 }
 
 // The weights of a row that leave the group g, added to `start`.
+#[tactic(auto, using(lists::proofs::Zipped::both_spent, crate::proofs::Sums::out_on, crate::proofs::Sums::out_end))]
 fn exit_weights(row: Row, g: u32, start: f64) -> f64
     ensures { result ≡ exit_from g start row.entry.partition.now row.entry.weights.now }
 {
     let mut a = start;
-    for (v, &p) in row.partition.iter().enumerate() {
-        a = add_exit(g, a, p, row.weights[v]);
+    for (&p, &w) in row.partition.iter().zip(row.weights) {
+        a = add_exit(g, a, p, w);
     }
     a
 }
@@ -50,7 +51,7 @@ fn exit_of(net: &Network, s: &MapState, v: usize, start: f64) -> f64
 }
 
 // Adds node v to its group's sums.
-#[tactic(auto, using(crate::proofs::Sums::slot))]
+#[tactic(auto, using(map_state::proofs::Leaders::slot))]
 fn add_node(net: &Network, s: &mut MapState, v: usize)
     requires { AtNode net.now s.old v }
     ensures { s.new ≡ with_sums s.old (add_node net.now s.old.partition (sums_in s.old) v) }
@@ -99,6 +100,8 @@ fn add_module(d: f64, t: Terms, e: f64, s: f64) -> Terms
 }
 
 // The groups by lowest member.
+// Kept as it is: the sums by the index of `first`, as in `sum_q` of map_state.
+#[tactic(auto, using(crate::proofs::Sums::terms_yes, crate::proofs::Sums::terms_no, crate::proofs::Sums::terms_end))]
 fn sum_terms(s: &MapState, d: f64) -> Terms
     ensures { result ≡ terms d s.now.partition s.now.exits s.now.strengths }
 {

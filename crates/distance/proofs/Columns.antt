@@ -1,4 +1,4 @@
--- The points of two columns of one length: how many they are, and each of them.
+-- The points of two columns of one length: how many they are, each of them, and the first of them with those behind it.
 use mathlib.Core.Path.{◌≡◌, refl, ap}
 use mathlib.Core.List.{List, [], ◌∷◌}
 use Prim.Native.Nat.{ℕ, zero, suc, ◌<◌}
@@ -22,3 +22,12 @@ point_read [] ys i p h = absurd (omega arith)
 point_read (x ∷ xs) [] i p h = absurd (omega arith)
 point_read (x ∷ xs) (y ∷ ys) zero p h = refl
 point_read (x ∷ xs) (y ∷ ys) (suc i) p h = point_read xs ys i (omega arith) (omega arith)
+
+pub points_next : (x y : Float) (xs ys : List Float) → points (x ∷ xs) (y ∷ ys) ≡ record { x = x; y = y } ∷ points xs ys
+unfolding points
+points_next x y xs ys = refl
+
+pub points_none : (xs ys : List Float) → length xs ≡ 0 → points xs ys ≡ []
+unfolding points
+points_none [] ys h = refl
+points_none (x ∷ xs) ys h = absurd (omega arith)

@@ -1,7 +1,7 @@
 // Points of the plane, columns of them, and their distance.
 #![tactic(auto)]
 
-ghost use Rattle.std.specs.Prelude.{◌≡◌, ◌<◌, length};
+ghost use Rattle.std.specs.Prelude.{◌≡◌, ◌<◌, ◌^◌, length};
 ghost use Rattle.distance.specs.Distance.{Measured};
 ghost use Rattle.distance.specs.Limit.{limit, within, in_limit};
 
@@ -25,6 +25,7 @@ pub struct Points<'a> {
 
 impl<'a> Points<'a> {
     ghost use Rattle.distance.specs.Steps.{points_of, point_at};
+    ghost use Rattle.distance.specs.StepsIter.{to_come};
 
     // How many points there are.
     #[tactic(auto, using(crate::proofs::Columns::length_points))]
@@ -44,6 +45,40 @@ impl<'a> Points<'a> {
             x: self.xs[i],
             y: self.ys[i],
         }
+    }
+
+    // The points, one by one.
+    #[tactic(auto, using(crate::proofs::Columns::length_points))]
+    pub fn iter(self) -> PointIter<'a>
+        ensures points { to_come result ≡ points_of self.entry }
+        ensures fits { length (to_come result) < 2 ^ 64 }
+    {
+        PointIter { rest: self }
+    }
+}
+
+// The points that an iterator over them has still to give.
+#[derive(Debug, Drop)]
+pub struct PointIter<'a> {
+    rest: Points<'a>,
+}
+
+impl<'a> Iterator for PointIter<'a> {
+    ghost use Rattle.std.specs.Iterator.{YieldsFirst, item_count};
+    ghost use Rattle.distance.specs.StepsIter.{to_come};
+
+    type Item = Point;
+
+    ghost next_gives = { YieldsFirst to_come };
+
+    ghost remaining = { item_count to_come };
+
+    #[tactic(auto, using(crate::proofs::Columns::points_next, crate::proofs::Columns::points_none))]
+    fn next(&mut self) -> Option<Point> {
+        let (&x, xs) = self.rest.xs.split_first()?;
+        let (&y, ys) = self.rest.ys.split_first()?;
+        self.rest = Points { xs, ys };
+        Some(Point { x, y })
     }
 }
 

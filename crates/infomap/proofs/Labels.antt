@@ -7,10 +7,11 @@ use native.Mathlib.Numerals.{add-one}
 use native.Mathlib.Omega.{arith}
 use borrow.Author.Tests.{eqb-true, eqb-false, eq-eqb, ne_eqb}
 use lib.Dec.{eqb}
-use lib.ListN.{length, get_or, length-map}
+use lib.ListN.{length, get_or, set, length-map, length-set}
 use lib.Seq.{ext_get_or}
 use Rattle.map_state.specs.MapState.{lowest, leads}
 use Rattle.lists.proofs.Maps.{get_or_map}
+use Rattle.lists.proofs.Stores.{stored_below}
 use Rattle.map_state.proofs.Leaders.{lowest_of}
 use Rattle.std.specs.Prelude.{Option, Some, None, position}
 use Rattle.map_state.proofs.Chains.{found, not_found}
@@ -68,6 +69,22 @@ first_if_none part v h e n = absurd (omega (arith, not_found (get_or part v 0) p
 
 pub first_if_above : (part : List ℕ) (v : ℕ) {o : Option ℕ} {f : ℕ} → v < length part → o ≡ position (λ p. eqb p (get_or part v 0)) part → o ≡ Some f → v ≤ f → v ≡ lowest (get_or part v 0) part
 first_if_above part v h e n k = omega (arith, found (get_or part v 0) part e n, lowest_of part v h)
+
+-- node v labelled: what is known of the labels below it goes on, and so does the count of groups
+module _ (part labels : List ℕ) (v n : ℕ) {next : ℕ} (here : v < length part) (long : length labels ≡ n) (room : v < n) (below : (k : ℕ) → k < v → get_or labels k 0 ≡ label_at part k) (q : next ≡ rank part v) where
+  abbrev pub Labelled : List ℕ → ℕ → Type 0
+  Labelled ls m = ((k : ℕ) → k < v + 1 → get_or ls k 0 ≡ label_at part k) × (m ≡ rank part (v + 1)) × (length ls ≡ n)
+
+  pub labelled_seen : {o : Option ℕ} {f : ℕ} → o ≡ position (λ p. eqb p (get_or part v 0)) part → o ≡ Some f → f < v → Labelled (set labels v (get_or labels f 0)) next
+  labelled_seen e is d =
+      let p = (found (get_or part v 0) part e is).0 in (
+        stored_below _ labels v _ (omega arith) (label_at part) below (label_seen part labels v here p q d below),
+        rank_seen part labels v here p q d,
+        simp length-set long,
+      )
+
+  pub labelled_new : v ≡ lowest (get_or part v 0) part → Labelled (set labels v next) (next + 1)
+  labelled_new first = (stored_below _ labels v _ (omega arith) (label_at part) below (label_new part v first q), rank_new part v first q, simp length-set long)
 
 pub is_relabelled : (part labels : List ℕ) → length labels ≡ length part → ((k : ℕ) → k < length part → get_or labels k 0 ≡ label_at part k) → labels ≡ relabel_dense part
 unfolding relabel_dense

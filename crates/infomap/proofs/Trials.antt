@@ -1,17 +1,21 @@
 -- A trial kept or not, and the trials one after the other.
-use mathlib.Core.Path.{◌≡◌, sym, ◌∙◌}
+use mathlib.Core.Path.{◌≡◌, sym, ap, ◌∙◌}
 use mathlib.Core.Bool.{true, false}
-use mathlib.Core.List.{List}
+use mathlib.Core.List.{List, ◌++◌}
 use Prim.Native.Nat.{ℕ, suc, ◌+◌, ◌-◌, ◌<◌, ◌≤◌}
 use native.Mathlib.Omega.{arith}
-use lib.ListN.{length}
+use lib.ListN.{length, take, replicate}
+use lib.Seq.{length-take-le, take_at}
 use lib.Ieee.{Float, lt}
 use Rattle.lists.specs.Lists.{upto}
 use Rattle.float.specs.Binary64.{zero64}
 use Rattle.rng.specs.Rng.{seeded}
-use Rattle.map_state.specs.Network.{Network}
+use Rattle.map_state.specs.Network.{Network, network}
+use Rattle.map_state.proofs.Rows.{length_network}
 use Rattle.codelength.specs.Codelength.{codelength}
 use Rattle.optimize.specs.Rounds.{Run, optimize_partition}
+use Rattle.infomap.specs.declared.Kept.{Kept}
+use Rattle.infomap.specs.Steps.{grouping_of}
 use Rattle.infomap.specs.Infomap.{Grouping, RunMark, rest, trial_mark, keep, trials, best_of_three, kept_grouping, relabel_dense, run_infomap}
 
 module _ (n : Network) (k : Grouping) (s : Run) {l : Float} (len : l ≡ codelength n s.state.partition) where
@@ -50,7 +54,16 @@ pub kept_none : (n : Network) (seed c : ℕ) {part : List ℕ} → lt zero64 n.d
 unfolding kept_grouping
 kept_none n seed c h p e = rw (h, e, p)
 
-pub run_is : (n : Network) (seed : ℕ) (k : Grouping) {labels : List ℕ} → k ≡ kept_grouping n seed → labels ≡ relabel_dense k.partition
-    → ◌≡◌ {A = Grouping} (record { partition = labels; mark = k.mark; rounds = k.rounds; codelength = k.codelength }) (run_infomap n seed)
+-- in front of 512 numbers, as many as the network has nodes
+front : (k : ℕ) → k ≤ 512 → length {A = ℕ} (take k (replicate 512 0)) ≡ k
+front k h = length-take-le k (replicate 512 0) h
+
+pub nodes_front : (t : List Float) (m k : ℕ) {net : Network} → net ≡ network t m k → k ≤ 512 → length {A = ℕ} (take k (replicate 512 0)) ≡ length net.strength
+nodes_front t m k e h = front k h ∙ sym (ap (λ (x : Network). length x.strength) e ∙ length_network t m k)
+
+pub run_is : (n : Network) (seed k : ℕ) (r : Kept) (best end : List ℕ) {labels : List ℕ} {net : Network} → net ≡ n → grouping_of best r ≡ kept_grouping net seed → labels ≡ relabel_dense (take k (best ++ end))
+    → length best ≡ length {A = ℕ} (take k (replicate 512 0)) → k ≤ 512 → grouping_of labels r ≡ run_infomap n seed
 unfolding run_infomap
-run_is n seed k e p = rw (p, e)
+run_is n seed k r best end e g d l h =
+    let o : take k (best ++ end) ≡ best = take_at best end k (l ∙ front k h) in
+    rw (d, o, ← e, ← g)

@@ -2,7 +2,7 @@
 // Kept as it is: arrays of fixed size, of which a part is lent, since the project takes no heap (docs/DECISIONS.md, "No heap").
 #![tactic(auto)]
 
-ghost use Rattle.std.specs.Prelude.{◌≡◌, ◌+◌, ◌-◌, ◌*◌, ◌<◌, ◌≤◌, length};
+ghost use Rattle.std.specs.Prelude.{◌≡◌, ◌+◌, ◌-◌, ◌<◌, ◌≤◌, length};
 ghost use Rattle.map_state.specs.Network.{network};
 ghost use Rattle.map_state.specs.Steps.{Fits};
 ghost use Rattle.optimize.specs.Steps.{run_of};
@@ -28,6 +28,8 @@ pub struct Kept {
     pub codelength: f64,
 }
 
+// The mark of a trial that ended, by whether its last round moved a node.
+// Kept as it is: no `From<bool>`, which would not say what is true of the trial; the definition has this name.
 #[tactic(auto, unfolding(crate::specs::Infomap::mark_of, crate::specs::Infomap::trial_mark))]
 fn trial_mark(moved: bool) -> Mark
     ensures { mark_of result ≡ trial_mark moved }
@@ -36,6 +38,8 @@ fn trial_mark(moved: bool) -> Mark
 }
 
 // Keeps a trial, if its codelength is below that of k: its groups are left in `best`.
+// Kept as it is: `net` and `best` go together through three functions, each of which asks that `best` has the network's nodes. A struct of the two would have
+// to promise, in each, that it holds the same network and the same slice afterwards, which parameters of their own say by themselves.
 #[tactic(auto, using(crate::proofs::Trials::keep_yes, crate::proofs::Trials::keep_no))]
 fn keep(net: &Network, t: &mut RunState, best: &mut [u32], k: Kept) -> Kept
     requires { (Fits net.now t.old.state) × (length best.old ≡ length t.old.state.partition) }
@@ -96,7 +100,8 @@ fn kept_grouping(net: &Network, best: &mut [u32], seed: u64) -> Kept
 }
 
 // Numbers the groups 0 up by first member.
-// Kept as it is: a number counted beside the loop. Taken from a range it would be `next().unwrap_or(0)`, with a number that is never used.
+// Kept as it is: a number counted beside the loop. Taken from a range it would be `next().unwrap_or(0)`, with a number that is never used. `labels` goes by
+// the index of `partition`, since a member takes the label at its group's lowest member.
 #[tactic(auto, using(crate::proofs::Labels::rank_le, crate::proofs::Labels::is_relabelled), unfolding(crate::specs::Infomap::rank))]
 fn relabel_dense(partition: &[u32], labels: &mut [u32])
     requires { (length labels.old ≡ length partition.now) × (length partition.now ≤ 512) }
@@ -115,6 +120,7 @@ fn relabel_dense(partition: &[u32], labels: &mut [u32])
 }
 
 // The grouping of the nodes whose weights stand in the table: each node's label, and the mark, the rounds and the codelength of the kept trial.
+#[tactic(auto, using(crate::proofs::Trials::nodes_front))]
 pub fn run_infomap(table: WeightTable, labels: &mut [u32], seed: u64) -> Kept
     requires { length labels.old ≡ table.n }
     ensures { grouping_of labels.new result ≡ run_infomap (network table.entry.weights.now table.entry.stride table.entry.n) seed }

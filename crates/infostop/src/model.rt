@@ -7,7 +7,7 @@ use distance::Points;
 use settings::config::Config;
 use settings::refusal::Refusal;
 
-// Kept as it is: arrays of 512 with a count beside them, by value, are the rules' form of the model.
+// Kept as it is: arrays of 512 with a count and a flag beside them, by value, are the rules' form of the model.
 #[derive(Clone, Copy, Debug, PartialEq)]
 pub struct Infostop {
     pub config: Config,

@@ -1,8 +1,10 @@
 // The steps of a fit whose tracks have passed the checks: stays, places, labels of places, labels of fixes.
 // Kept as it is: arrays of fixed size, of which a part is lent, since the project's memory is fixed and it takes no heap.
 // Kept as it is: the work slices `labels`, `floats` and `words` go together through `label_tracks`, `from_medians`, `from_tracks`, `fit_tracks` and
-// `fit_predict_many` (`label_fixes` takes two of them), and are parameters of their own. They are the caller's, lent to be written, and each step cuts them
-// differently. A struct of `&mut` slices is no plainer: each contract would also have to say that every field still holds the slice that it held.
+// `fit_predict_many` (`label_fixes` takes two of them), and are parameters of their own; so they are in `fit_records` and `fit_taken` of records, `floats`,
+// `words` and `out` in `visits` and `write_visits` of reports (`label_stays` takes two of them), and in replay programs. They are the caller's, lent to be
+// written, and each step cuts them differently. A struct of `&mut` slices is no plainer: each contract would also have to say that every field still holds
+// the slice that it held.
 ghost use Rattle.std.specs.Prelude.{◌≡◌, ◌+◌, ◌*◌, ◌≤◌, length, Ok};
 ghost use Rattle.distance.specs.Steps.{points_of};
 ghost use Rattle.trace.specs.Given.{traces_of};

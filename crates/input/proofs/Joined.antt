@@ -1,5 +1,5 @@
 -- Calls one behind the other: what each told, and what all told together.
-use mathlib.Core.Path.{◌≡◌, refl, sym, ap, subst, ◌∙◌}
+use mathlib.Core.Path.{◌≡◌, refl, sym, ap, ◌∙◌}
 use mathlib.Core.Logic.{◌⊎◌, inl, inr}
 use mathlib.Core.List.{List, [], ◌∷◌, ◌++◌, append_assoc}
 use Prim.Native.Nat.{ℕ, zero, suc, min}
@@ -14,13 +14,13 @@ use Rattle.text.specs.declared.Reader.{Reader}
 use Rattle.text.specs.Values.{Columns}
 use Rattle.text.specs.Parsed.{Parsed}
 use Rattle.text.specs.Machine.{Fed}
-use Rattle.text.specs.Pieces.{Starts, Feeds, Finishes}
+use Rattle.text.specs.Pieces.{Starts, Finishes}
 use Rattle.settings.specs.declared.refusal.Refusal.TheVariants.{Text}
 use Rattle.input.specs.declared.Next.{Next}
 use Rattle.input.specs.declared.Next.TheVariants.{More, End, Failed}
 use Rattle.input.specs.declared.Piece.{Piece}
 use Rattle.input.specs.Calls.{Moved, Call, given, next_of, Taken, Heard, whole, broken, behind, heard_next, heard, ReadFrom}
-use Rattle.input.specs.Steps.{HoldsHeard, Told, Ends}
+use Rattle.input.specs.Steps.{HoldsHeard, Took, Told, Ends}
 
 -- ---- one call
 
@@ -29,15 +29,15 @@ pub could_be : {E : Type 0} (told : Result ℕ E) (buf : List ℕ) → ReadsAtMo
 could_be (Ok n) buf b = b.0
 could_be (Err e) buf b = tt
 
--- As many bytes of the buffer as there are.
-taken_first : (got : Option ℕ) (buf : List ℕ) (k : ℕ) {r q : Reader} {c c' : Columns} → k ≡ min (unwrap_or got 0) (length buf) → Feeds (take k buf) r c q c' → Feeds (given got buf) r c q c'
-unfolding given
-taken_first (Some n) buf k {r} {q} {c} {c'} e h = subst (λ (t : List ℕ). Feeds t r c q c') (ap (λ (j : ℕ). take j buf) e ∙ take_min n buf) h
-taken_first None buf k {r} {q} {c} {c'} e h = let z : k ≡ 0 = omega arith in subst (λ (j : ℕ). Feeds (take j buf) r c q c') z h
+-- The call that it was.
+pub took : {E : Type 0} {r : Reader} {c₁ c₂ : Columns} {p : Piece} (told : Result ℕ E) (buf : List ℕ) → ReadsAtMost told buf → Taken (result_ok told) buf r c₁ p c₂ → (g : Call) × Took g r c₁ p c₂
+took told buf b k = (record { count = result_ok told; buffer = buf; could = could_be told buf b }, k)
 
-pub taken : (got : Option ℕ) (buf : List ℕ) (k : ℕ) (r q : Reader) (c c' : Columns) (next : Next) → next ≡ next_of got
-    → k ≡ min (unwrap_or got 0) (length buf) → Feeds (take k buf) r c q c' → Taken got buf r c (record { reader = q; next = next }) c'
-taken got buf k r q c c' next n e h = record { read = taken_first got buf k e h; next = n }
+-- As many bytes of the buffer as there are.
+pub first_given : (got : Option ℕ) (buf : List ℕ) → given got buf ≡ take (min (unwrap_or got 0) (length buf)) buf
+unfolding given
+first_given (Some n) buf = sym (take_min n buf)
+first_given None buf = let z : min 0 (length buf) ≡ 0 = omega arith in rw z
 
 pub no_more : {n : Next} → (n ≡ End) ⊎ (n ≡ Failed) → n ≡ More → ⊥
 no_more (inl e) q = cc
@@ -91,24 +91,24 @@ pub record SoFar (c : Columns) (gs : List Call) (r : Reader) (c' : Columns) : Ty
   passed : Passed gs bytes
 
 module _ {c : Columns} where
-  pub so_far_start : {r : Reader} → Starts r → SoFar c [] r c
-  so_far_start e = record { bytes = []; fed = e.start c; passed = record { then = λ hs. sym (behind_none (heard hs)) } }
+  pub so_far_start : {r : Reader} → Starts r → ((gs : List Call) × SoFar c gs r c)
+  so_far_start e = ([], record { bytes = []; fed = e.start c; passed = record { then = λ hs. sym (behind_none (heard hs)) } })
 
   -- No call told of an end.
-  pub told_spent : {gs : List Call} {r : Reader} {c' : Columns} → SoFar c gs r c' → ((hs : List Call) × Told c hs (record { reader = r; next = Failed }) c')
+  pub told_spent : {r : Reader} {c' : Columns} → ((gs : List Call) × SoFar c gs r c') → ((hs : List Call) × Told c hs (record { reader = r; next = Failed }) c')
   unfolding behind heard
-  told_spent {gs} {r} {c'} s = (gs ++ [], record { held = rw (s.passed.then []) (no_end (inr refl)) })
+  told_spent {r} {c'} (gs, s) = (gs ++ [], record { held = rw (s.passed.then []) (no_end (inr refl)) })
 
   module _ {gs : List Call} {r : Reader} {c₁ : Columns} (s : SoFar c gs r c₁) (g : Call) {p : Piece} {c₂ : Columns} (k : Taken g.count g.buffer r c₁ p c₂) where
     fed_too : Fed c (s.bytes ++ given g.count g.buffer) p.reader c₂
     fed_too = k.read.more s.fed
 
-    pub so_far_more : p.next ≡ More → SoFar c (gs ++ (g ∷ [])) p.reader c₂
-    so_far_more e = record { bytes = s.bytes ++ given g.count g.buffer; fed = fed_too; passed = passed_more s.passed g (sym k.next ∙ e) }
+    more_so_far : p.next ≡ More → SoFar c (gs ++ (g ∷ [])) p.reader c₂
+    more_so_far e = record { bytes = s.bytes ++ given g.count g.buffer; fed = fed_too; passed = passed_more s.passed g (sym k.next ∙ e) }
 
-    pub told_last : (p.next ≡ More → ⊥) → Told c (gs ++ (g ∷ [])) p c₂
+    last_told : (p.next ≡ More → ⊥) → Told c (gs ++ (g ∷ [])) p c₂
     unfolding heard_next behind
-    told_last e = record { held = go p.next refl }
+    last_told e = record { held = go p.next refl }
       where
         go : (n : Next) → p.next ≡ n → HoldsHeard (heard (gs ++ (g ∷ []))) c p c₂
         go More h = absurd (e h)
@@ -116,6 +116,14 @@ module _ {c : Columns} where
             let z : next_of g.count ≡ End = sym k.next ∙ h in
             rw (passed_last s.passed g End z) (h, rw (none_given g.count g.buffer z) at fed_too)
         go Failed h = rw (passed_last s.passed g Failed (sym k.next ∙ h)) (no_end (inr h))
+
+  -- What one call more leaves.
+  module _ {r : Reader} {c₁ c₂ : Columns} {p : Piece} where
+    pub so_far_more : ((g : Call) × Took g r c₁ p c₂) → ((gs : List Call) × SoFar c gs r c₁) → p.next ≡ More → ((gs : List Call) × SoFar c gs p.reader c₂)
+    so_far_more (g, k) (gs, s) e = (gs ++ (g ∷ []), more_so_far s g k e)
+
+    pub told_last : ((g : Call) × Took g r c₁ p c₂) → ((gs : List Call) × SoFar c gs r c₁) → (p.next ≡ More → ⊥) → ((gs : List Call) × Told c gs p c₂)
+    told_last (g, k) (gs, s) e = (gs ++ (g ∷ []), last_told s g k e)
 
 -- ---- the end
 

@@ -46,6 +46,7 @@ fn next_of(got: Option<usize>) -> Next
 }
 
 // Takes what a call of `read` gave: what it told, how many bytes or that it failed, and the buffer as the call left it.
+#[tactic(auto, using(crate::proofs::Joined::first_given))]
 pub fn take_piece(
     told: std::io::Result<usize>,
     buf: &[u8],
@@ -88,6 +89,7 @@ fn read_piece<R: Read>(
 }
 
 // Reads until a call gives no more. An input that has not ended after 2^64 - 1 calls counts as failed.
+#[tactic(auto, using(crate::proofs::Joined::so_far_start, crate::proofs::Joined::told_spent))]
 fn read_pieces<R: Read>(
     stdin: &mut R,
     xs: &mut [f64],
@@ -115,6 +117,7 @@ fn read_pieces<R: Read>(
 }
 
 // What was read, if the last call told that the input has ended; otherwise standard error says that the input was not read to its end.
+#[tactic(auto, using(crate::proofs::Joined::ends_whole, crate::proofs::Joined::ends_broken))]
 fn finish(p: Piece) -> Result<Input, Refusal>
     ensures { Ends p result }
 {

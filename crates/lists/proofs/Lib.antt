@@ -8,4 +8,4 @@ pub mod Stores
 pub mod Maps
 pub mod Written
 pub mod Parts
-pub mod Signed
+pub mod Zipped

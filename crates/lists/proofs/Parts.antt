@@ -2,9 +2,8 @@
 use mathlib.Core.Path.{◌≡◌, sym, ap, ◌∙◌}
 use mathlib.Core.List.{List, ◌++◌, append_assoc}
 use Prim.Native.Nat.{ℕ, ◌+◌, ◌-◌, ◌≤◌, ◌<◌}
-use native.Mathlib.Nat.{sub-zero}
 use native.Mathlib.Omega.{arith}
-use lib.ListN.{length, take, drop, set, length-take, length-drop, length-append, take-append-drop}
+use lib.ListN.{length, take, drop, set, length-drop, length-append, take-append-drop}
 use lib.Seq.{sets, sets-eq, take_at, drop_at, take-append-le, drop-append-le, length-take-le, drop-drop, take-take, take-set-le, take-set-lt, drop-set-lt, drop-set-add}
 use Rattle.lists.specs.StepsParts.{part, put}
 
@@ -96,11 +95,3 @@ back_before b f a e p l g h q =
     ap (take (f - b)) (drop-append-le b (take a l) (p ++ drop (e - a) (drop a l)) (omega arith))
     ∙ take-append-le (f - b) (drop b (take a l)) (p ++ drop (e - a) (drop a l)) (omega arith)
     ∙ take_drop_take b (f - b) a l (omega arith) q
-
--- A part from 0 on.
-pub lent_first : {A : Type 0} (n : ℕ) (l : List A) → lent 0 n l ≡ take n l
-lent_first n l = ap (λ (k : ℕ). take k l) (sub-zero n)
-
--- Parts of lists of one length.
-pub length_lent : {A B : Type 0} (a n : ℕ) (l : List A) (m : List B) → length l ≡ length m → length (lent a n l) ≡ length (lent a n m)
-length_lent a n l m e = simp (length-take, length-drop) (rw e)

@@ -1,7 +1,7 @@
--- A loop that stores element after element: what is known below the index, and from it on.
+-- A loop that stores element after element: what is known below the index.
 use mathlib.Core.Path.{◌≡◌, sym, ap, ◌∙◌}
 use mathlib.Core.List.{List}
-use Prim.Native.Nat.{ℕ, ◌+◌, ◌<◌, ◌≤◌}
+use Prim.Native.Nat.{ℕ, ◌+◌, ◌<◌}
 use native.Mathlib.Decide.{ℕ_discrete}
 use native.Mathlib.Omega.{arith}
 use lib.ListN.{length, get_or, set}
@@ -14,6 +14,3 @@ module _ {A : Type 0} (d : A) (l : List A) (v : ℕ) (x : A) where
 
   pub stored_below : v < length l → (f : ℕ → A) → ((k : ℕ) → k < v → get_or l k d ≡ f k) → x ≡ f v → (k : ℕ) → k < v + 1 → get_or (set l v x) k d ≡ f k
   stored_below h f e p k q = at_or_below k h f e p q (ℕ_discrete k v)
-
-  pub stored_above : (f : ℕ → A) → ((k : ℕ) → v ≤ k → get_or l k d ≡ f k) → (k : ℕ) → v + 1 ≤ k → get_or (set l v x) k d ≡ f k
-  stored_above f e k q = get_or-set_other l v k x d (λ r. omega arith) ∙ e k (omega arith)

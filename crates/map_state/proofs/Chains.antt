@@ -38,32 +38,25 @@ not_found g part e f = go (dec_lt (lowest g part) (length part)) (sym f ∙ e �
   go (yes h) q = let r : None ≡ Some (lowest g part) = rw (lt-ltb _ _ h) at q in cc
   go (no h) q = omega arith
 
--- ---- the number of members, counted node by node: k so far, and those from v on
+-- ---- the number of members from v on: a member first, another node, and none past the last
 count_on : (g : ℕ) (part : List ℕ) (v : ℕ) → v < length part → count g (drop v part) ≡ cond (eqb (get_or part v 0) g) (suc (count g (drop (v + 1) part))) (count g (drop (v + 1) part))
 unfolding count
 count_on g part v h = rw (drop-cons part v 0 h, add-one v) refl
 
-pub count_yes : (g k : ℕ) (part : List ℕ) (v : ℕ) → k + count g (drop v part) ≡ count g part → v < length part → get_or part v 0 ≡ g → k + 1 + count g (drop (v + 1) part) ≡ count g part
-count_yes g k part v e h t =
-    let o : count g (drop v part) ≡ suc (count g (drop (v + 1) part)) = rw (eq-eqb _ _ t) at (count_on g part v h) in
-    omega (arith, o, e)
+pub count_yes : (g : ℕ) (part : List ℕ) (v : ℕ) → v < length part → get_or part v 0 ≡ g → count g (drop v part) ≡ suc (count g (drop (v + 1) part))
+count_yes g part v h t = rw (eq-eqb _ _ t) at (count_on g part v h)
 
-pub count_no : (g k : ℕ) (part : List ℕ) (v : ℕ) → k + count g (drop v part) ≡ count g part → v < length part → (get_or part v 0 ≡ g → ⊥) → k + count g (drop (v + 1) part) ≡ count g part
-count_no g k part v e h t =
-    let o : count g (drop v part) ≡ count g (drop (v + 1) part) = rw (ne_eqb _ _ t) at (count_on g part v h) in
-    omega (arith, o, e)
+pub count_no : (g : ℕ) (part : List ℕ) (v : ℕ) → v < length part → (get_or part v 0 ≡ g → ⊥) → count g (drop v part) ≡ count g (drop (v + 1) part)
+count_no g part v h t = rw (ne_eqb _ _ t) at (count_on g part v h)
 
-pub count_end : (g k : ℕ) (part : List ℕ) (v : ℕ) → k + count g (drop v part) ≡ count g part → length part ≤ v → k ≡ count g part
+pub count_end : (g : ℕ) (part : List ℕ) (v : ℕ) → length part ≤ v → count g (drop v part) ≡ 0
 unfolding count
-count_end g k part v e h = let o : k + 0 ≡ count g part = rw (drop_of_length-le part {i = v} h) at e in omega arith
+count_end g part v h = rw (drop_of_length-le part {i = v} h)
 
-count_few : (g : ℕ) (part : List ℕ) → count g part ≤ length part
+pub count_few : (g : ℕ) (part : List ℕ) → count g part ≤ length part
 unfolding count
 count_few g [] = omega arith
 count_few g (x ∷ xs) = go (eqb x g) (count_few g xs) where
   go : (b : Bool) → count g xs ≤ length xs → cond b (suc (count g xs)) (count g xs) ≤ suc (length xs)
   go true h = omega arith
   go false h = omega arith
-
-pub count_room : (g k : ℕ) (part : List ℕ) (v : ℕ) → k + count g (drop v part) ≡ count g part → k ≤ length part
-count_room g k part v e = omega (arith, e, count_few g part)

@@ -16,7 +16,7 @@ use lib.Ieee.{Float, nan}
 use Rattle.float.specs.Binary64.{add64, div64, zero64}
 use Rattle.lists.proofs.Maps.{get_or_inside}
 use Rattle.std.specs.Prelude.{position, Option, Some, None}
-use Rattle.map_state.proofs.Chains.{found, not_found}
+use Rattle.map_state.proofs.Chains.{found, not_found, count_few}
 use Rattle.map_state.specs.Network.{Network}
 use Rattle.map_state.specs.MapState.{MapState, moved_by, apply_move, store_at, lowest, count, leads, sum_q_from, sum_q, stats_of, stats_at}
 use Rattle.map_state.specs.Steps.{Firsts, Renewed, StoredAt, Summed}
@@ -38,15 +38,6 @@ unfolding lowest
 lowest_of [] v h = omega arith
 lowest_of (x ∷ xs) zero h = rw (eq-eqb x x refl) (omega arith)
 lowest_of (x ∷ xs) (suc v) h = lowest_le1 (eqb x (get_or xs v 0)) (lowest (get_or xs v 0) xs) v (lowest_of xs v (omega arith))
-
-count_le1 : (b : Bool) (r n : ℕ) → r ≤ n → cond b (suc r) r ≤ suc n
-count_le1 true r n h = omega arith
-count_le1 false r n h = omega arith
-
-pub count_le : (g : ℕ) (part : List ℕ) → count g part ≤ length part
-unfolding count
-count_le g [] = omega arith
-count_le g (x ∷ xs) = count_le1 (eqb x g) (count g xs) (length xs) (count_le g xs)
 
 count_of1 : (b : Bool) (r : ℕ) → 0 < r → 0 < cond b (suc r) r
 count_of1 true r h = omega arith
@@ -172,9 +163,15 @@ stats_some s u h e = rw e (count_of s.partition u h)
 
 pub stats_few : (s : MapState) (g : ℕ) {p : ModuleStats} → length s.partition ≤ 512 → p ≡ stats_of s g → p.n_nodes ≤ 512
 unfolding stats_at
-stats_few s g h e = rw e (omega (arith, count_le g s.partition))
+stats_few s g h e = rw e (omega (arith, count_few g s.partition))
 
--- the first n of a list of lowest members are enough for n nodes
-pub firsts_front : (n : ℕ) (part first : List ℕ) → length part ≤ n → Firsts part first → Firsts part (take n first)
+-- of n nodes, the first n of a list of lowest members are enough; there are as many, and they are nodes
+pub firsts_front : (n : ℕ) (part first : List ℕ) → Firsts (take n part) first → n ≤ length part → Firsts (take n part) (take n first)
 unfolding Firsts
-firsts_front n part first h f v p = get_or-take n first v 0 (omega arith) ∙ f v p
+firsts_front n part first f h v p = let e = length-take-le n part h in get_or-take n first v 0 (omega (arith, e)) ∙ f v p
+
+pub front_long : (n : ℕ) (part first : List ℕ) → n ≤ length part → n ≤ length first → length (take n first) ≡ length (take n part)
+front_long n part first h k = length-take-le n first k ∙ sym (length-take-le n part h)
+
+pub slot : (part first : List ℕ) (v : ℕ) → Firsts part first → v < length part → get_or first v 0 < length part
+slot part first v f h = omega (arith, firsts_of_lem part first f v h, lowest_of part v h)

@@ -1,5 +1,5 @@
 -- How the loop of the link weights goes on and ends.
-use mathlib.Core.Path.{◌≡◌, ◌∙◌}
+use mathlib.Core.Path.{◌≡◌, refl}
 use mathlib.Core.List.{List}
 use Prim.Native.Nat.{ℕ, ◌+◌, ◌<◌, ◌≤◌}
 use native.Mathlib.Numerals.{add-one}
@@ -10,12 +10,12 @@ use lib.Ieee.{Float, nan}
 use Rattle.map_state.specs.declared.Links.{Links}
 use Rattle.map_state.specs.MapState.{add_link, link_weights_from}
 
--- What is left to add, added to the weights so far, is z.
-pub link_on : (g h : ℕ) (l l' : Links) (part : List ℕ) (row : List Float) (v : ℕ) {z : Links} → link_weights_from g h l (drop v part) (drop v row) ≡ z → v < length part → length row ≡ length part
-    → l' ≡ add_link g h l (get_or part v 0) (get_or row v nan) → link_weights_from g h l' (drop (v + 1) part) (drop (v + 1) row) ≡ z
+-- What is left to add from node v on: its link first, and nothing past the last.
+pub link_on : (g h : ℕ) (l : Links) (part : List ℕ) (row : List Float) (v : ℕ) → length row ≡ length part → v < length part
+    → link_weights_from g h l (drop v part) (drop v row) ≡ link_weights_from g h (add_link g h l (get_or part v 0) (get_or row v nan)) (drop (v + 1) part) (drop (v + 1) row)
 unfolding link_weights_from
-link_on g h l l' part row v f p e r = (rw (r, add-one v, drop-cons part v 0 p, drop-cons row v nan (omega arith))) ∙ f
+link_on g h l part row v e p = rw (add-one v, drop-cons part v 0 p, drop-cons row v nan (omega arith)) refl
 
-pub link_end : (g h : ℕ) (l : Links) (part : List ℕ) (ws : List Float) (v : ℕ) {z : Links} → link_weights_from g h l (drop v part) ws ≡ z → length part ≤ v → l ≡ z
+pub link_end : (g h : ℕ) (l : Links) (part : List ℕ) (ws : List Float) (v : ℕ) → length part ≤ v → link_weights_from g h l (drop v part) ws ≡ l
 unfolding link_weights_from
-link_end g h l part ws v e p = rw (drop_of_length-le part {i = v} p) at e
+link_end g h l part ws v p = rw (drop_of_length-le part {i = v} p)

@@ -6,7 +6,7 @@ use Prim.Native.Nat.{ℕ, zero, suc, ◌+◌, ◌-◌, ◌*◌, ◌<◌, ◌≤�
 use native.Mathlib.Nat.{add-zero, sub-zero, zero-sub, suc-sub-suc, add-sub_cancel_left, mul-le-mul_right}
 use native.Mathlib.Numerals.{add-one}
 use native.Mathlib.Omega.{arith}
-use lib.ListN.{length, get_or, take, drop, length-drop, drop_of_length-le}
+use lib.ListN.{length, get_or, take, drop, length-drop, drop_of_length-le, replicate}
 use lib.Seq.{drop-cons, drop-drop, ext_get_or, length-take-le, take-nil, take_at}
 use lib.Ieee.{Float, nan, lt}
 use Rattle.float.specs.Binary64.{add64, mul64, zero64, two64}
@@ -92,10 +92,10 @@ module _ (t : List Float) (m n : ℕ) where
       rw o at f
 
   -- ---- the network, from the strengths in the first n places of an array
-  pub network_is : (s rest : List Float) {w : Float} → length s ≡ n → s ≡ strengths_of t m n → w ≡ total_weight t m n
+  pub network_is : (s rest : List Float) {w : Float} → n ≤ 512 → length s ≡ length (take n (replicate 512 zero64)) → s ≡ strengths_of t m n → w ≡ total_weight t m n
       → ◌≡◌ {A = Network} (record { table = t; stride = m; strength = take n (s ++ rest); d = mul64 two64 w }) (network t m n)
   unfolding network
-  network_is s rest l e q = rw (take_at s rest n l, q) (rw (← e))
+  network_is s rest f l e q = rw (take_at s rest n (l ∙ length-take-le n (replicate 512 zero64) (omega arith)), q) (rw (← e))
 
   pub length_network : length (network t m n).strength ≡ n
   unfolding network

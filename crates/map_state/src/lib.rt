@@ -2,10 +2,10 @@
 // Kept as it is: arrays of fixed size, of which a part is lent, since the project takes no heap (docs/DECISIONS.md, "No heap").
 #![tactic(auto)]
 
-ghost use Rattle.std.specs.Prelude.{◌≡◌, ◌+◌, ◌-◌, ◌*◌, ◌<◌, ◌≤◌, ◌==◌, length, get_or, position};
-ghost use Rattle.map_state.specs.Network.{row, add_weights, strengths_of, total_weight, network};
-ghost use Rattle.map_state.specs.MapState.{add_link, link_weights, lowest, count, after_move, module_terms, module_pair_delta, stats_at, stats_of, sum_q, delta_move, apply_move};
-ghost use Rattle.map_state.specs.Steps.{net_of, Rows, EachRow, Firsts, Summed, Room, StoredAt, Even, AtNode, Renewed, MoveSums};
+ghost use Rattle.std.specs.Prelude.{◌≡◌, ◌+◌, ◌-◌, ◌*◌, ◌<◌, ◌≤◌, ◌==◌, length, position};
+ghost use Rattle.map_state.specs.Network.{row, add_weights, strengths_of, total_weight};
+ghost use Rattle.map_state.specs.MapState.{add_link, link_weights, lowest, count, after_move, module_terms, module_pair_delta, stats_at, sum_q, delta_move};
+ghost use Rattle.map_state.specs.Steps.{Rows, EachRow, Firsts, Summed, Room, StoredAt, Renewed};
 
 use std::marker::Model;
 
@@ -22,6 +22,7 @@ pub struct WeightTable<'a> {
 }
 
 // The weights between a node and each node, beside the groups of the nodes.
+// Kept as it is: two slices, since the one is a row of the lent table and the other of the state.
 #[derive(Clone, Copy, Debug, PartialEq)]
 pub struct Row<'a> {
     pub weights: &'a [f64],
@@ -129,9 +130,11 @@ fn add_link(l: Links, g: u32, h: u32, p: u32, w: f64) -> Links
 }
 
 // What each link of a row adds up to.
-// Kept as it is: an index for the weights, here and where a row is read in codelength and scan. A `zip` of the two columns takes more instructions:
+// Kept as it is: an index for the weights, here and where scan looks for a candidate. A `zip` of the two columns takes more instructions:
 // the change of codelength, of which this loop is the most, 44.8 million in six groupings of 64 nodes with all links, and 39.7 with the index.
-// The bar: the grouping must not be slower than before these forms.
+// The bar: these groupings take no more than at the commit on the first line of docs/DESIGN-PASS.md, 115.6 million. They take 113.7 with the index, and
+// would take 118.8.
+#[tactic(auto, using(crate::proofs::Loops::link_on, crate::proofs::Loops::link_end))]
 fn link_weights(row: Row, g: u32, h: u32) -> Links
     ensures { result ≡ link_weights g h row.entry.partition.now row.entry.weights.now }
 {
@@ -155,7 +158,8 @@ pub fn lowest(partition: &[u32], g: u32) -> Option<usize>
 
 // The number of a group's members.
 // Kept as it is: counted by hand. `filter` and `count` take 16.6 million instructions in six groupings of 64 nodes with all links, and this loop 2.7,
-// since several nodes are compared at once. The bar: the grouping must not be slower than before these forms.
+// since several nodes are compared at once. The bar is that of `link_weights`: they would take 127.6.
+#[tactic(auto, using(crate::proofs::Chains::count_yes, crate::proofs::Chains::count_no, crate::proofs::Chains::count_end, crate::proofs::Chains::count_few))]
 fn members(partition: &[u32], g: u32) -> u32
     requires { length partition.now ≤ 512 }
     ensures { result ≡ count g partition.now }
@@ -263,6 +267,8 @@ pub fn find_stats(partition: &[u32], exits: &[f64], strengths: &[f64], g: u32) -
 }
 
 // Q, by lowest member.
+// Kept as it is: `exits` by the index of `first`, since a node is a lowest member where its index is what stands there: a `zip` of the two would name the
+// index too, and read every exit weight, where those of the lowest members are wanted.
 #[tactic(auto, using(crate::proofs::Leaders::q_start, crate::proofs::Leaders::q_yes, crate::proofs::Leaders::q_no, crate::proofs::Leaders::q_end))]
 pub fn sum_q(partition: &[u32], first: &[u32], exits: &[f64], d: f64) -> f64
     requires { (length first.now ≡ length partition.now) × (length exits.now ≡ length partition.now) × Firsts partition.now first.now }
@@ -278,6 +284,8 @@ pub fn sum_q(partition: &[u32], first: &[u32], exits: &[f64], d: f64) -> f64
 }
 
 // Gives each member of group g the number `a`.
+// Kept as it is: `first` by the index of `partition`. Tried with `first.iter_mut().zip(partition)`, and the proof didn't close: of what a slice holds once a
+// loop over such a pair has ended nothing is told.
 fn renew_first(partition: &[u32], first: &mut [u32], g: u32, a: u32)
     requires { length partition.now ≤ length first.old }
     ensures { Renewed partition.now first.old first.new g a }

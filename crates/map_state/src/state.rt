@@ -18,6 +18,7 @@ impl MapState {
     }
 
     // The lowest member of each node's group.
+    #[tactic(auto, using(crate::proofs::Leaders::firsts_front, crate::proofs::Leaders::front_long))]
     pub fn first(&self) -> &[u32]
         ensures { (length result.now ≡ length self.now.partition) × (Firsts self.now.partition result.now) × (length result.now ≤ 512) }
     {
@@ -50,6 +51,7 @@ impl MapState {
     }
 
     // The sums of a node's own group.
+    #[tactic(auto, using(crate::proofs::Leaders::firsts_of_lem, crate::proofs::Leaders::slot))]
     pub fn own_stats(&self, v: usize) -> ModuleStats
         requires { v < length self.now.partition }
         ensures { result ≡ stats_of self.now (get_or self.now.partition v 0) }

@@ -8,6 +8,7 @@ use crate::{Network, WeightTable, sum_strengths, total_weight};
 
 impl<'a> Network<'a> {
     // The network of the nodes whose weights stand in the table.
+    #[tactic(auto, using(crate::proofs::Rows::network_is))]
     pub fn new(table: WeightTable<'a>) -> Self
         ensures { result ≡ network table.entry.weights.now table.entry.stride table.entry.n }
     {
@@ -54,6 +55,7 @@ impl<'a> Network<'a> {
     }
 
     // The weights between node u and each node.
+    #[tactic(auto, using(crate::proofs::Rows::row_within, crate::proofs::Rows::row_length), unfolding(crate::specs::Network::row))]
     pub fn row(&self, u: usize) -> &[f64]
         requires { u < length self.now.strength }
         ensures { (result.now ≡ row self.now u) × (length result.now ≡ length self.now.strength) }

@@ -2,7 +2,7 @@
 use mathlib.Core.Path.{◌≡◌, ap, ◌∙◌}
 use mathlib.Core.List.{List}
 use Prim.Native.Nat.{ℕ, suc, ◌+◌, ◌*◌, ◌<◌, ◌≤◌}
-use native.Mathlib.Nat.{mul-le-mul, mul-le-mul_right, suc-mul, zero-mul}
+use native.Mathlib.Nat.{mul-le-mul_right, suc-mul, zero-mul}
 use native.Mathlib.Decide.{ℕ_discrete, dec_lt}
 use native.Mathlib.Numerals.{add-one}
 use native.Mathlib.Omega.{arith}
@@ -59,10 +59,6 @@ tabled_row f n t i j h k a b x y l = h a b x y (omega (arith, rw (add-one i, suc
 pub tabled_end : (f : ℕ → ℕ → Float) (n : ℕ) (t : List Float) (i : ℕ) → Tabled f n t (i * n) → n ≤ i → Tabled f n t (n * n)
 unfolding Tabled
 tabled_end f n t i h k a b x y l = h a b x y (omega (arith, mul-le-mul_right n k))
-
--- At most 512 rows and columns have an index that fits.
-pub few_cells : (n a b : ℕ) → n ≤ 512 → a < n → b < n → a * n + b < 262144
-few_cells n a b h p q = let r : n * n ≤ 512 * 512 = mul-le-mul h h in omega (arith, in_table n a b p q)
 
 pub tabled_less : (f : ℕ → ℕ → Float) (n : ℕ) (t : List Float) (k m : ℕ) → Tabled f n t k → m ≤ k → Tabled f n t m
 unfolding Tabled

@@ -9,7 +9,7 @@ use lib.ListN.{length, get_or, set}
 use lib.Seq.{get_or-set_other}
 use lib.Ieee.{Float, nan}
 use Rattle.neighbors.specs.StepsTables.{RowNumbers, Compacted}
-use Rattle.neighbors.proofs.Cells.{in_table, few_cells, tabled_none, tabled_less, tabled_on}
+use Rattle.neighbors.proofs.Cells.{in_table, tabled_none, tabled_less, tabled_on}
 
 module _ (n : ℕ) (ns : List ℕ) (r : RowNumbers n ns) where
   abbrev k : ℕ
@@ -30,12 +30,6 @@ module _ (n : ℕ) (ns : List ℕ) (r : RowNumbers n ns) where
 
   -- The cell that the code reads, and the one that it writes.
   module _ (u v : ℕ) (p : u < k) (q : v < k) where
-    pub source_few : n ≤ 512 → get_or ns u 0 * n + get_or ns v 0 < 262144
-    source_few h = few_cells n (get_or ns u 0) (get_or ns v 0) h (r.below u p) (r.below v q)
-
-    pub target_few : n ≤ 512 → u * k + v < 262144
-    target_few h = let a = read_later u v p q in let b = source_few h in omega arith
-
     pub compact_on : (t s : List Float) → Compacted n ns t s (u * k + v) → n * n ≤ length s
         → Compacted n ns t (set s (u * k + v) (get_or s (get_or ns u 0 * n + get_or ns v 0) nan)) (u * k + (v + 1))
     compact_on t s c l =

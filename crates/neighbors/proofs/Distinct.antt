@@ -1,48 +1,39 @@
 -- The loop of `distinct` over the medians.
 use mathlib.Core.Path.{◌≡◌, refl, sym, ap, ◌∙◌}
 use mathlib.Core.List.{List, [], ◌∷◌}
-use Prim.Native.Nat.{ℕ, suc, ◌+◌, ◌<◌, ◌≤◌}
-use native.Mathlib.Numerals.{add-one}
+use Prim.Native.Nat.{ℕ, ◌+◌, ◌<◌, ◌≤◌}
 use native.Mathlib.Omega.{arith}
-use lib.ListN.{length, drop, drop_of_length-le}
-use lib.Seq.{drop-cons}
+use lib.ListN.{length}
 use lib.Ieee.{Float}
 use Rattle.lists.specs.Lists.{overlay}
 use Rattle.std.specs.Prelude.{Option, Some, None}
 use Rattle.distance.specs.declared.Point.{Point}
 use Rattle.neighbors.specs.Places.{Place, sighted, sighted_all, places, places_in, place_xs, place_ys}
-use Rattle.distance.specs.Steps.{no_point, point_at}
 use Rattle.neighbors.specs.StepsPlaces.{stay_count, sighted_within, places_within, place_counts, front, Laid, OneMoreLaid, DistinctLaid}
 use Rattle.neighbors.proofs.Sighted.{longer, longer_all, counted_one}
 use Rattle.neighbors.proofs.Within.{within_on, within_stop, counted_within, counted_beyond, within_some, within_none}
 use Rattle.neighbors.proofs.Laid.{length_front, front_laid, laid_over, laid_as}
 
--- n places of the first k medians stand in front, and behind them what was there.
-pub record Reached (ms : List Point) (xs₀ ys₀ : List Float) (cs₀ : List ℕ) (xs ys : List Float) (cs : List ℕ) (n k : ℕ) : Type 0 where
-  pub rest : sighted_all (front xs ys cs n) (drop k ms) ≡ places ms
-  pub within : sighted_within (length xs₀) (front xs ys cs n) (drop k ms) ≡ places_within (length xs₀) ms
+-- Of the medians ms those in `left` are still to come: the n places of the others stand in front, and behind them what was there.
+pub record Reached (ms : List Point) (xs₀ ys₀ : List Float) (cs₀ : List ℕ) (xs ys : List Float) (cs : List ℕ) (n : ℕ) (left : List Point) : Type 0 where
+  pub rest : sighted_all (front xs ys cs n) left ≡ places ms
+  pub within : sighted_within (length xs₀) (front xs ys cs n) left ≡ places_within (length xs₀) ms
   pub laid : Laid (front xs ys cs n) xs₀ ys₀ cs₀ xs ys cs
   pub few : n ≤ length xs₀
-  pub counted : stay_count (front xs ys cs n) ≡ k
+  pub counted : stay_count (front xs ys cs n) + length left ≡ length ms
 
 module _ (ms : List Point) (xs₀ ys₀ : List Float) (cs₀ : List ℕ) where
-  pub distinct_start : Reached ms xs₀ ys₀ cs₀ xs₀ ys₀ cs₀ 0 0
+  pub distinct_start : (left : List Point) → left ≡ ms → Reached ms xs₀ ys₀ cs₀ xs₀ ys₀ cs₀ 0 left
   unfolding places places_within places_in stay_count overlay place_xs place_ys place_counts
-  distinct_start = record { rest = refl; within = refl; laid = (refl, refl, refl); few = omega arith; counted = refl }
+  distinct_start left e = rw e record { rest = refl; within = refl; laid = (refl, refl, refl); few = omega arith; counted = omega arith }
 
-  module _ (xs ys : List Float) (cs : List ℕ) (n k : ℕ) (at : Reached ms xs₀ ys₀ cs₀ xs ys cs n k)
-      (h : k < length ms) {m : Point} (is : m ≡ point_at ms k) (l : length xs ≡ length xs₀) where
+  module _ (xs ys : List Float) (cs : List ℕ) (n : ℕ) {qs : List Point} (at : Reached ms xs₀ ys₀ cs₀ xs ys cs n qs)
+      (m : Point) (left : List Point) (first : qs ≡ m ∷ left) (l : length xs ≡ length xs₀) where
     abbrev before : List Place
     before = front xs ys cs n
 
     abbrev next : List Place
     next = sighted before m
-
-    abbrev left : List Point
-    left = drop (k + 1) ms
-
-    first : drop k ms ≡ m ∷ left
-    first = rw (add-one k, is) (drop-cons ms k no_point h)
 
     step : sighted_all next left ≡ places ms
     unfolding sighted_all
@@ -58,13 +49,13 @@ module _ (ms : List Point) (xs₀ ys₀ : List Float) (cs₀ : List ℕ) where
           laid_over xs ys cs xs' ys' cs' before qs xs₀ ys₀ cs₀ at.laid b
           (laid_as xs ys cs xs' ys' cs' (sighted_within (length xs) before (m ∷ [])) qs a e.1)
 
-      pub distinct_on : (r : ℕ) → o ≡ Some r → Reached ms xs₀ ys₀ cs₀ xs' ys' cs' r (k + 1)
+      pub distinct_on : (r : ℕ) → o ≡ Some r → Reached ms xs₀ ys₀ cs₀ xs' ys' cs' r left
       distinct_on r d = record {
         rest = ap (λ (z : List Place). sighted_all z left) f ∙ step;
         within = ap (λ (z : List Place). sighted_within (length xs₀) z left) f ∙ sym (within_on (length xs₀) before m left (omega (arith, many))) ∙ step_within;
         laid = laid_as xs₀ ys₀ cs₀ xs' ys' cs' next (front xs' ys' cs' r) (sym f) t;
         few = omega (arith, many);
-        counted = ap stay_count f ∙ counted_one before m ∙ ap suc at.counted ∙ sym (add-one k);
+        counted = omega (arith, ap stay_count f, counted_one before m, at.counted, ap length first);
       }
         where
           many : (r ≡ length next) × (r ≤ length xs)
@@ -92,15 +83,12 @@ module _ (ms : List Point) (xs₀ ys₀ : List Float) (cs₀ : List ℕ) where
           over : length xs₀ < length (places ms)
           over = rw step at (let a = longer_all next left in let z : length xs₀ < length (sighted_all next left) = omega (arith, many) in z)
 
-  pub distinct_end : (xs ys : List Float) (cs : List ℕ) (n k : ℕ) → Reached ms xs₀ ys₀ cs₀ xs ys cs n k → length ys ≡ length xs
-      → length cs ≡ length xs → length xs ≡ length xs₀ → length ms ≤ k → DistinctLaid ms xs₀ ys₀ cs₀ (Some n) xs ys cs
-  distinct_end xs ys cs n k at p q l h =
+  pub distinct_end : (xs ys : List Float) (cs : List ℕ) (n : ℕ) (left : List Point) → Reached ms xs₀ ys₀ cs₀ xs ys cs n left → length ys ≡ length xs
+      → length cs ≡ length xs → length xs ≡ length xs₀ → left ≡ [] → DistinctLaid ms xs₀ ys₀ cs₀ (Some n) xs ys cs
+  distinct_end xs ys cs n left at p q l none =
       let end = laid_as xs₀ ys₀ cs₀ xs ys cs (front xs ys cs n) (places_within (length xs₀) ms) b at.laid in
       (counted_within (length xs₀) (places ms) n c at.few, end.0, end.1, end.2)
     where
-      none : drop k ms ≡ []
-      none = drop_of_length-le ms {i = k} h
-
       a : front xs ys cs n ≡ places ms
       a = unfold sighted_all in ap (sighted_all (front xs ys cs n)) (sym none) ∙ at.rest
 

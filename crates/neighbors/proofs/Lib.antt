@@ -10,6 +10,7 @@ pub mod Cells
 pub mod Linked
 pub mod LinkWeights
 pub mod Selected
+pub mod FoundRows
 pub mod NodeList
 pub mod Compact
 pub mod NodeTable

@@ -3,14 +3,13 @@ use mathlib.Core.Path.{◌≡◌, refl, ap, ◌∙◌}
 use mathlib.Core.Bool.{Bool, true, false, not}
 use mathlib.Core.List.{List}
 use Prim.Native.Nat.{ℕ, ◌+◌, ◌*◌, ◌<◌, ◌≤◌}
-use native.Mathlib.Omega.{arith}
 use borrow.Author.Tests.{not-true}
 use lib.ListN.{length, get_or}
 use lib.Ieee.{Float, nan, lt}
 use Rattle.lists.specs.Lists.{upto, Has, position}
 use Rattle.lists.proofs.Tests.{clash}
-use Rattle.lists.proofs.Upto.{length_upto, upto_has, has_upto}
-use Rattle.lists.proofs.Members.{has_at, any_has, has_any, any_like, select_like, select_has, select_true, select_in, select_length, select_at_least, select_position}
+use Rattle.lists.proofs.Upto.{upto_has, has_upto}
+use Rattle.lists.proofs.Members.{has_at, any_has, has_any, any_like, select_like, select_has, select_true, select_in, select_position}
 use Rattle.float.specs.Binary64.{zero64}
 use Rattle.float.proofs.Exact.{most}
 use Rattle.neighbors.specs.Places.{Place}
@@ -20,6 +19,7 @@ use Rattle.neighbors.specs.Links.{link, weight, linked, nodes, singles}
 use Rattle.neighbors.specs.StepsTables.{Tabled, has_weight, rows_with_weight, RowNumbers}
 use Rattle.neighbors.proofs.Cells.{in_table, tabled_at}
 use Rattle.neighbors.proofs.Found.{Counted}
+use Rattle.neighbors.proofs.FoundRows.{selected_rise}
 use Rattle.neighbors.proofs.LinkWeights.{weight_above}
 
 module _ (dist : Metric) (r2 : Float) (ps : List Place) where
@@ -75,15 +75,12 @@ module _ (dist : Metric) (r2 : Float) (ps : List Place) where
   unfolding nodes
   node_position u h = select_position (linked dist r2 ps) (length ps) u h
 
-  pub nodes_few : length ns ≤ length ps
-  unfolding nodes
-  nodes_few = let a = select_length (linked dist r2 ps) (upto (length ps)) in let b = length_upto (length ps) in omega arith
-
   pub nodes_rise : RowNumbers (length ps) ns
-  nodes_rise = record { few = nodes_few; above = above; below = λ u h. node_lt (get_or ns u 0) (node_at u h) }
-    where
-      above : (u : ℕ) → u < length ns → u ≤ get_or ns u 0
-      above u h = unfold nodes in select_at_least (linked dist r2 ps) (length ps) u h
+  unfolding nodes
+  nodes_rise = selected_rise (linked dist r2 ps) (length ps)
+
+  pub nodes_few : length ns ≤ length ps
+  nodes_few = nodes_rise.few
 
   -- The rows with a weight above 0 are the nodes.
   pub rows_nodes : (t : List Float) → Tabled (weight dist r2 ps) (length ps) t (length ps * length ps) → Counted ps → stay_count ps ≤ most

@@ -1,5 +1,5 @@
 -- What a search for a place answers.
-use mathlib.Core.Path.{◌≡◌, refl, ap, ◌∙◌}
+use mathlib.Core.Path.{◌≡◌, refl, ◌∙◌}
 use mathlib.Core.Bool.{Bool, true, false, not, cond}
 use mathlib.Core.List.{List, [], ◌∷◌}
 use Prim.Native.Nat.{ℕ, suc, ◌+◌, ◌<◌, ◌≤◌}
@@ -8,13 +8,9 @@ use native.Mathlib.Omega.{arith}
 use lib.Dec.{ltb}
 use borrow.Author.Tests.{lt-ltb, le-ltb}
 use lib.ListN.{length}
-use lib.Ieee.{Float}
 use Rattle.std.specs.Prelude.{Option, Some, None}
-use Rattle.std.specs.List.{position_or_len, zip}
-use Rattle.std.proofs.lemmas.Slice.Zip.{length-zip}
+use Rattle.std.specs.List.{position_or_len}
 use Rattle.distance.specs.declared.Point.{Point}
-use Rattle.distance.specs.Distance.{points}
-use Rattle.distance.proofs.Columns.{length_points}
 use Rattle.neighbors.specs.Places.{Place, same_place, place_of}
 use Rattle.neighbors.specs.StepsPlaces.{place_points, place_found, PlaceFound}
 use Rattle.neighbors.proofs.Within.{length_place_points}
@@ -47,31 +43,23 @@ place_le (p ∷ ps) m = go (same_place p.at m) (place_le ps m)
     go true h = omega arith
     go false h = omega arith
 
--- ---- the search in two columns
+-- ---- the search in a list of points
 
 module _ (m : Point) where
-  abbrev pub is_at : Float × Float → Bool
-  is_at p = same_place (record { x = p.0; y = p.1 }) m
+  abbrev pub is_at : Point → Bool
+  is_at q = same_place q m
 
-  place_of_pairs : (ps : List Place) (xs ys : List Float) → length ys ≡ length xs → place_points ps ≡ points xs ys → place_of ps m ≡ position_or_len is_at (zip xs ys)
-  unfolding place_of place_points points
-  place_of_pairs [] [] ys p q = refl
-  place_of_pairs [] (x ∷ xs) [] p q = absurd (omega arith)
-  place_of_pairs [] (x ∷ xs) (y ∷ ys) p q = absurd (cc)
-  place_of_pairs (a ∷ ps) [] ys p q = absurd (cc)
-  place_of_pairs (a ∷ ps) (x ∷ xs) [] p q = absurd (omega arith)
-  place_of_pairs (a ∷ ps) (x ∷ xs) (y ∷ ys) p q =
-      let here : a.at ≡ record { x = x; y = y } = cc in
-      let rest : place_points ps ≡ points xs ys = cc in
-      rw here (go (is_at (x, y)) (place_of_pairs ps xs ys (omega arith) rest))
+  place_of_points : (ps : List Place) → place_of ps m ≡ position_or_len is_at (place_points ps)
+  unfolding place_of place_points
+  place_of_points [] = refl
+  place_of_points (p ∷ ps) = go (is_at p.at) (place_of_points ps)
     where
-      go : (b : Bool) → place_of ps m ≡ position_or_len is_at (zip xs ys) → cond b 0 (suc (place_of ps m)) ≡ cond (not b) (1 + position_or_len is_at (zip xs ys)) 0
+      go : (b : Bool) → place_of ps m ≡ position_or_len is_at (place_points ps)
+          → cond b 0 (suc (place_of ps m)) ≡ cond (not b) (1 + position_or_len is_at (place_points ps)) 0
       go true e = refl
       go false e = omega arith
 
-  pub pairs_found : (xs ys : List Float) {r : Option ℕ} → length ys ≡ length xs
-      → r ≡ cond (ltb (position_or_len is_at (zip xs ys)) (length (zip xs ys))) (Some (position_or_len is_at (zip xs ys))) None → PlaceFound (points xs ys) m r
+  pub points_found : (qs : List Point) {r : Option ℕ}
+      → r ≡ cond (ltb (position_or_len is_at qs) (length qs)) (Some (position_or_len is_at qs)) None → PlaceFound qs m r
   unfolding place_found
-  pairs_found xs ys p e ps q =
-      let l : length ps ≡ length (zip xs ys) = omega (arith, length_place_points ps, ap length q, length_points xs ys p, length-zip xs ys) in
-      rw (place_of_pairs ps xs ys p q, l) e
+  points_found qs e ps q = rw (place_of_points ps, ← length_place_points ps, q) e

@@ -1,15 +1,17 @@
 -- How the search for nodes goes on and ends.
-use mathlib.Core.Path.{◌≡◌, refl, sym, ap, ◌∙◌}
+use mathlib.Core.Path.{◌≡◌, refl, ap, ◌∙◌}
 use mathlib.Core.Bool.{Bool, true, false, ◌||◌}
 use mathlib.Core.List.{List, [], ◌∷◌, ◌++◌, append_assoc, append-nil}
-use Prim.Native.Nat.{ℕ, zero, suc, ◌+◌, ◌-◌, ◌<◌, ◌≤◌}
-use native.Mathlib.Nat.{sub-zero}
+use Prim.Native.Nat.{ℕ, zero, suc, ◌+◌, ◌-◌, ◌*◌, ◌<◌, ◌≤◌}
+use native.Mathlib.Nat.{sub-zero, mul-le-mul_right}
 use native.Mathlib.Numerals.{add-one}
 use native.Mathlib.Omega.{arith}
 use lib.ListN.{length, get_or, take, drop, set, length-append}
 use lib.Seq.{drop-cons}
-use lib.Ieee.{Float, nan}
+use lib.Ieee.{Float, nan, lt}
 use Rattle.std.specs.List.{list_any}
+use Rattle.float.specs.Binary64.{zero64}
+use Rattle.neighbors.specs.StepsTables.{has_weight}
 use Rattle.lists.specs.Lists.{from, upto, any_of, select, overlay}
 use Rattle.lists.proofs.Overlay.{overlay_set}
 
@@ -22,13 +24,15 @@ any_from f t a (suc k) j h =
     let e : a + suc j ≡ suc (a + j) = omega arith in
     rw (drop-cons t (a + j) nan (omega arith)) (ap (λ (b : Bool). f (get_or t (a + j) nan) || b) (rw e at (any_from f t a k (suc j) (omega arith))))
 
--- Whether f holds of one of the n items of a list from item a on.
-pub any_row : (f : Float → Bool) (t : List Float) (a n : ℕ) → a + n ≤ length t → list_any f (take (a + n - a) (drop a t)) ≡ any_of (λ i. f (get_or t (a + i) nan)) (upto n)
-unfolding upto
-any_row f t a n h =
-    let e : a + n - a ≡ n = omega arith in
-    let z : a + 0 ≡ a = omega arith in
-    rw e (rw z at (any_from f t a n 0 (omega arith)))
+-- Whether some item of row i of a table of n columns is above 0.
+pub weight_in_row : (t : List Float) (n i : ℕ) → i < n → n * n ≤ length t → list_any (lt zero64) (take (i * n + n - i * n) (drop (i * n) t)) ≡ has_weight n t i
+unfolding has_weight upto
+weight_in_row t n i h k =
+    let p : suc i ≤ n = omega arith in
+    let m = mul-le-mul_right n p in
+    let e : i * n + n - i * n ≡ n = omega arith in
+    let z : i * n + 0 ≡ i * n = omega arith in
+    rw e (rw z at (any_from (lt zero64) t (i * n) n 0 (omega (arith, m, k))))
 
 left_over : (n j : ℕ) → j < n → n - j ≡ suc (n - (j + 1))
 left_over n j h = omega arith
@@ -61,15 +65,9 @@ module _ (f : ℕ → Bool) (n : ℕ) (l₀ l : List ℕ) (k i : ℕ) (s : Selec
   unfolding select from
   select_past e = record { found = s.found; all = s.all ∙ rw (left_over n i h, e, add-one i); laid = s.laid; many = s.many; few = omega (arith, s.few) }
 
-module _ (f : ℕ → Bool) (n : ℕ) (l₀ l : List ℕ) (k i : ℕ) (s : Selected f n l₀ l k i) (h : n ≤ i) where
-  all_found : s.found ≡ select f (upto n)
-  unfolding select from
-  all_found = let z : n - i ≡ 0 = omega arith in sym (s.all ∙ rw (z, append-nil))
-
-  pub select_count : k ≡ length (select f (upto n))
-  select_count = s.many ∙ ap length all_found
-
-  pub select_laid : l ≡ overlay (select f (upto n)) l₀
-  select_laid = s.laid ∙ ap (λ (r : List ℕ). overlay r l₀) all_found
+-- past the last there is nothing more to find
+pub select_end : (f : ℕ → Bool) (n i : ℕ) (found : List ℕ) → n ≤ i → found ++ select f (from i (n - i)) ≡ found
+unfolding select from
+select_end f n i found h = let z : n - i ≡ 0 = omega arith in rw (z, append-nil)
 
 pub ruleset select_steps = (select_start, select_on, select_past)

@@ -25,7 +25,7 @@ fn has_weight(table: &[f64], n: usize, i: usize) -> bool
 
 // Writes the rows with a weight above 0 to the front of the slice, and tells how many there are.
 // Kept as it is: the rows found are counted beside the loop, since there is no heap to collect them in: they go to a lent slice.
-#[tactic(auto, using(crate::proofs::Selected::select_steps))]
+#[tactic(auto, using(crate::proofs::Selected::select_steps, crate::proofs::Selected::select_end), unfolding(crate::specs::StepsTables::rows_with_weight))]
 pub fn find_nodes(table: &[f64], n: usize, nodes: &mut [u32]) -> usize
     requires { (n ≤ 512) × (n * n ≤ length table.now) × (n ≤ length nodes.old) }
     ensures { (result ≡ length (rows_with_weight n table.now)) × (nodes.new ≡ overlay (rows_with_weight n table.now) nodes.old) }

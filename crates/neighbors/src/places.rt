@@ -80,11 +80,7 @@ pub fn same_place(a: Point, b: Point) -> bool
 pub fn place_of(places: Points, m: Point) -> Option<usize>
     ensures { PlaceFound (points_of places.entry) m result }
 {
-    places
-        .xs
-        .iter()
-        .zip(places.ys)
-        .position(|(&x, &y)| same_place(Point { x, y }, m))
+    places.iter().position(|p| same_place(p, m))
 }
 
 // One more stay with the median m, where n places stand in front: how many there are then. Where that is one more than there is room for,
@@ -125,8 +121,8 @@ pub fn distinct(
     ensures { DistinctLaid (points_of medians.entry) xs.old ys.old counts.old result xs.new ys.new counts.new }
 {
     let mut n = 0;
-    for k in 0..medians.len() {
-        n = sight(xs, ys, counts, n, medians.at(k))?;
+    for m in medians.iter() {
+        n = sight(xs, ys, counts, n, m)?;
     }
     Some(n)
 }

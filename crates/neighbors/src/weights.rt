@@ -22,7 +22,7 @@ fn pair_weight(p: Point, q: Point, c: u32, d: u32, r2: f64) -> f64
 }
 
 // Cell (i, j) of the table whose earlier rows are filled.
-// Kept as it is: `places` and `r2` are two, here, in `fill_row` and in `fill_table`: nothing holds of the one by the other, and `cell` alone reads r2.
+// Kept as it is: `places` and `r2` are two, here, in `fill_row` and in `fill_table`: nothing holds of the one by the other, and `cell` alone needs r2.
 #[tactic(auto, using(crate::proofs::Cells::row_before, crate::proofs::Cells::tabled_at, crate::proofs::Linked::weight_sym, crate::proofs::Linked::cell_same, crate::proofs::Linked::cell_pair))]
 fn cell(places: &Places, r2: f64, table: &[f64], i: usize, j: usize) -> f64
     requires { (j < length places.now) × RowsFilled euclidean r2 places.now table.now i }

@@ -1,13 +1,11 @@
 -- How a pass goes on, node by node.
 use mathlib.Core.Path.{◌≡◌, refl, ◌∙◌}
-use mathlib.Core.Bool.{true}
 use mathlib.Core.List.{List, [], ◌∷◌}
 use Prim.Native.Nat.{ℕ, ◌+◌, ◌<◌, ◌≤◌}
 use native.Mathlib.Numerals.{add-one}
 use native.Mathlib.Omega.{arith}
 use lib.ListN.{length, length-set, get_or, drop, drop_of_length-le}
 use lib.Seq.{drop-cons}
-use lib.Ieee.{Float}
 use Rattle.rng.specs.Steps.{Below}
 use Rattle.rng.proofs.Visits.{below_at}
 use Rattle.map_state.specs.Network.{Network}
@@ -16,15 +14,11 @@ use Rattle.optimize.specs.Rounds.{Pass, act, pass}
 use Rattle.scan.specs.Scan.{Answer, no_move, move}
 use Rattle.scan.specs.Steps.{answer_of}
 use Rattle.scan.specs.declared.Scan.{Scan}
-use Rattle.scan.specs.declared.Scan.TheVariants.{Stay, Move}
+use Rattle.scan.specs.declared.Scan.TheVariants.{Stay}
 
 pub act_stay : (n : Network) (w : Pass) (u : ℕ) {a : Scan} → a ≡ Stay → w ≡ act n w u (answer_of a)
 unfolding act answer_of
 act_stay n w u e = rw e
-
-pub act_move : (n : Network) (w : Pass) (u h : ℕ) (d : Float) {a : Scan} {s : MapState} → a ≡ Move h d → s ≡ apply_move n w.state u h → ◌≡◌ {A = Pass} (record { state = s; moved = true }) (act n w u (answer_of a))
-unfolding act answer_of
-act_move n w u h d e p = rw (e, p)
 
 pub pass_on : (f : Network → MapState → ℕ → Answer) (n : Network) (w : Pass) (order : List ℕ) (i : ℕ) {w' : Pass} {u : ℕ} {a : Answer} → i < length order → u ≡ get_or order i 0 → a ≡ f n w.state u → w' ≡ act n w u a
     → pass f n w' (drop (i + 1) order) ≡ pass f n w (drop i order)

@@ -40,7 +40,8 @@ unfolding run_rounds
 rest n zero r = refl
 rest n (suc k) r = refl
 
--- The rounds that are left after i of the 100, from r on, give z: past a round that moved something, after one that did not, and at the end.
+-- The rounds that are left after i of the 100, from r on: past a round that moved something they give what they gave before it (z), after one that did not
+-- they are that round, and at the end there are none.
 pub rounds_on : (n : Network) (i : ℕ) (r : Run) {s z : Run} → run_rounds n (100 - i) true r ≡ z → i < 100 → s ≡ round n r → s.moved ≡ true → run_rounds n (100 - (i + 1)) true s ≡ z
 unfolding run_rounds
 rounds_on n i r {z = z} f h p m =
@@ -49,19 +50,17 @@ rounds_on n i r {z = z} f h p m =
     let g : run_rounds n (100 - (i + 1)) (round n r).moved (round n r) ≡ z = rw o at f in
     rw p (subst (λ (b : Bool). run_rounds n (100 - (i + 1)) b (round n r) ≡ z) e g)
 
-pub rounds_rest : (n : Network) (i : ℕ) (r : Run) {s z : Run} → run_rounds n (100 - i) true r ≡ z → i < 100 → s ≡ round n r → s.moved ≡ false → s ≡ z
+pub rounds_rest : (n : Network) (i : ℕ) (r : Run) → i < 100 → (round n r).moved ≡ false → run_rounds n (100 - i) true r ≡ round n r
 unfolding run_rounds
-rounds_rest n i r {z = z} f h p m =
+rounds_rest n i r h e =
     let o : 100 - i ≡ suc (100 - (i + 1)) = omega arith in
-    let e : (round n r).moved ≡ false = rw (← p) m in
-    let g : run_rounds n (100 - (i + 1)) (round n r).moved (round n r) ≡ z = rw o at f in
-    p ∙ sym (rest n (100 - (i + 1)) (round n r)) ∙ subst (λ (b : Bool). run_rounds n (100 - (i + 1)) b (round n r) ≡ z) e g
+    rw o (subst (λ (b : Bool). run_rounds n (100 - (i + 1)) b (round n r) ≡ round n r) (sym e) (rest n (100 - (i + 1)) (round n r)))
 
-pub rounds_end : (n : Network) (i : ℕ) (r : Run) {z : Run} → run_rounds n (100 - i) true r ≡ z → 100 ≤ i → r ≡ z
+pub rounds_end : (n : Network) (i : ℕ) (r : Run) → 100 ≤ i → run_rounds n (100 - i) true r ≡ r
 unfolding run_rounds
-rounds_end n i r f h =
+rounds_end n i r h =
     let o : 100 - i ≡ 0 = omega arith in
-    rw o at f
+    rw o
 
 pub moved_at_most : (b : ℕ) (n : Network) (w : Pass) (us : List ℕ) {v : Pass} → v ≡ pass scan n w us → AtMost b w.state.partition → AtMost b v.state.partition
 moved_at_most b n w us e f = rw e (move_pass_at_most b n w us f)
@@ -91,19 +90,17 @@ visits_on n i r o {z = z} f h p m v =
     let g : last_visits_from n (100 - (i + 1)) (round n r).moved (round n r) (visits n r) ≡ z = rw k at f in
     rw (p, v) (subst (λ (b : Bool). last_visits_from n (100 - (i + 1)) b (round n r) (visits n r) ≡ z) e g)
 
-pub visits_rest : (n : Network) (i : ℕ) (r : Run) (o : List ℕ) {s : Run} {o' z : List ℕ} → last_visits_from n (100 - i) true r o ≡ z → i < 100 → s ≡ round n r → s.moved ≡ false → o' ≡ visits n r → o' ≡ z
+pub visits_rest : (n : Network) (i : ℕ) (r : Run) (o : List ℕ) → i < 100 → (round n r).moved ≡ false → last_visits_from n (100 - i) true r o ≡ visits n r
 unfolding last_visits_from
-visits_rest n i r o {z = z} f h p m v =
+visits_rest n i r o h e =
     let k : 100 - i ≡ suc (100 - (i + 1)) = omega arith in
-    let e : (round n r).moved ≡ false = rw (← p) m in
-    let g : last_visits_from n (100 - (i + 1)) (round n r).moved (round n r) (visits n r) ≡ z = rw k at f in
-    v ∙ sym (visits_kept n (100 - (i + 1)) (round n r) (visits n r)) ∙ subst (λ (b : Bool). last_visits_from n (100 - (i + 1)) b (round n r) (visits n r) ≡ z) e g
+    rw k (subst (λ (b : Bool). last_visits_from n (100 - (i + 1)) b (round n r) (visits n r) ≡ visits n r) (sym e) (visits_kept n (100 - (i + 1)) (round n r) (visits n r)))
 
-pub visits_end : (n : Network) (i : ℕ) (r : Run) (o : List ℕ) {z : List ℕ} → last_visits_from n (100 - i) true r o ≡ z → 100 ≤ i → o ≡ z
+pub visits_end : (n : Network) (i : ℕ) (r : Run) (o : List ℕ) → 100 ≤ i → last_visits_from n (100 - i) true r o ≡ o
 unfolding last_visits_from
-visits_end n i r o f h =
+visits_end n i r o h =
     let k : 100 - i ≡ 0 = omega arith in
-    rw k at f
+    rw k
 
 -- ---- a round keeps the number of nodes
 

@@ -5,7 +5,7 @@ ghost use Rattle.std.specs.Prelude.{◌≡◌, ℕ, true, ◌+◌, ◌-◌, ◌<
 ghost use Rattle.lists.specs.Lists.{upto};
 ghost use Rattle.map_state.specs.Network.{Network};
 ghost use Rattle.map_state.specs.MapState.{MapState};
-ghost use Rattle.map_state.specs.Steps.{Fits, AtNode};
+ghost use Rattle.map_state.specs.Steps.{AtNode};
 ghost use Rattle.scan.specs.Scan.{Answer, scan, isolate};
 ghost use Rattle.scan.specs.Steps.{answer_of, Testable};
 ghost use Rattle.optimize.specs.Rounds.{act, pass, visits, round, run_rounds};
@@ -56,7 +56,7 @@ impl Ask for Isolations {
 }
 
 // Node u does as it is answered. Hands back whether a node has moved.
-#[tactic(auto, using(crate::proofs::Passes::act_stay, crate::proofs::Passes::act_move))]
+#[tactic(auto, using(crate::proofs::Passes::act_stay), unfolding(crate::specs::Rounds::act, scan::specs::Steps::answer_of))]
 fn act(net: &Network, s: &mut MapState, u: usize, a: Scan, moved: bool) -> bool
     requires { AtNode net.now s.old u }
     ensures { pass_of s.new result ≡ act net.now (pass_of s.old moved) u (answer_of a) }
@@ -86,6 +86,8 @@ fn pass<A: Ask>(net: &Network, s: &mut MapState, order: &[u32], start: bool) -> 
 }
 
 // One round: an order of visiting, a pass of moves and an isolation pass.
+// Kept as it is: `net` and `order` go together, here and through `pass`, `run_rounds` and `optimize_partition`, and are parameters of their own, for the reason
+// at `keep` of infomap.
 fn round(net: &Network, r: &mut RunState, order: &mut [u32])
     requires { (RoundFrom 800000 net.now r.old order.old) × (r.old.rounds < 1000) }
     ensures { RoundEnds (round net.now (run_of r.old)) (visits net.now (run_of r.old)) r.new order.new }
@@ -97,7 +99,7 @@ fn round(net: &Network, r: &mut RunState, order: &mut [u32])
 }
 
 // Rounds, up to 100, until one moves nothing.
-#[tactic(auto, using(crate::proofs::Numbers::at_most_more))]
+#[tactic(auto, using(crate::proofs::Numbers::at_most_more, crate::proofs::Rounds::rounds_rest, crate::proofs::Rounds::visits_rest, crate::proofs::Rounds::rounds_end, crate::proofs::Rounds::visits_end))]
 fn run_rounds(net: &Network, r: &mut RunState, order: &mut [u32])
     requires { (RoundFrom 512 net.now r.old order.old) × (r.old.rounds ≡ 0) }
     ensures { RoundEnds (run_rounds net.now 100 true (run_of r.old)) (last_visits_from net.now 100 true (run_of r.old) order.old) r.new order.new }

@@ -2,39 +2,32 @@
 use mathlib.Core.Path.{◌≡◌, refl}
 use mathlib.Core.Bool.{true, ◌&&◌}
 use mathlib.Core.List.{[], ◌∷◌}
-use Prim.Native.Nat.{ℕ, zero, suc, ◌<◌}
+use Prim.Native.Nat.{zero, suc, ◌<◌}
 use native.Mathlib.Omega.{arith}
-use borrow.Author.Tests.{leb-true, lt-leb, ne_eqb}
+use borrow.Author.Tests.{leb-true, eqb-true, lt-leb, ne_eqb}
 use lib.IntN.{ℤ, pos, negsuc, nat_abs}
 use lib.Signed.{le_z}
 use mir.Syntax.{w32}
 use mir.Val.{SFits}
 use Rattle.std.specs.Int.{FitsUnsignedBits}
 use Rattle.text.specs.Bytes.{bytes}
-use Rattle.print.specs.Lines.{decimal, label_text}
-use Rattle.print.specs.Steps.{Out, pushes}
+use Rattle.print.specs.Lines.{label_text}
 use Rattle.posting.specs.Sheet.{right_aligned}
 use Rattle.posting.specs.Posted.{in_column}
 
-pub few_digits : (l : ℤ) (n : ℕ) → in_column l ≡ true → FitsUnsignedBits 64 l × (n ≡ nat_abs l) → n < 1000
+pub few_digits : (l : ℤ) → in_column l ≡ true → nat_abs l < 1000
 unfolding in_column
-few_digits (pos m) n h f = let k = leb-true m 511 h in let e = f.1 in omega arith
-few_digits (negsuc m) n h f = absurd f.0
+few_digits (pos m) h = let k = leb-true m 511 h in omega arith
+few_digits (negsuc m) h = let z : m ≡ 0 = eqb-true m 0 h in omega arith
 
-pub number_aligned : (o o₁ : Out) (l : ℤ) (n : ℕ) → FitsUnsignedBits 64 l × (n ≡ nat_abs l) → o₁ ≡ pushes o (right_aligned 3 (decimal n))
-    → o₁ ≡ pushes o (right_aligned 3 (label_text l))
-unfolding label_text
-number_aligned o o₁ (pos m) n f p = rw f.1 at p
-number_aligned o o₁ (negsuc m) n f p = absurd f.0
-
-pub none_aligned : (o o₁ : Out) (l : ℤ) → SFits w32 l → (FitsUnsignedBits 64 l → ⊥) → o₁ ≡ pushes o (32 ∷ 45 ∷ 49 ∷ []) → o₁ ≡ pushes o (right_aligned 3 (label_text l))
+pub none_column : (l : ℤ) → SFits w32 l → (FitsUnsignedBits 64 l → ⊥) → right_aligned 3 (label_text l) ≡ 32 ∷ 45 ∷ 49 ∷ []
 unfolding label_text right_aligned bytes
-none_aligned o o₁ (pos m) s f p = absurd (f (omega (arith, s.sfits)))
-none_aligned o o₁ (negsuc m) s f p = p
+none_column (pos m) s f = absurd (f (omega (arith, s.sfits)))
+none_column (negsuc m) s f = refl
 
 -- ---- the test of the code
 
-pub in_range : (l : ℤ) → (le_z (negsuc 0) l && le_z l (pos 511)) ≡ in_column l
+pub in_range : (l : ℤ) → in_column l ≡ (le_z (negsuc 0) l && le_z l (pos 511))
 unfolding in_column
 in_range (pos n) = refl
 in_range (negsuc zero) = refl

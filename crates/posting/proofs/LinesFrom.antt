@@ -9,11 +9,13 @@ use lib.IntN.{ℤ, pos}
 use lib.ListN.{length, get_or, take, drop, drop_of_length-le}
 use lib.Seq.{drop-cons, length-take-le}
 use Rattle.trace.specs.Trace.{total}
+use Rattle.text.specs.Bytes.{line_feed, space}
+use Rattle.print.specs.Lines.{decimal, label_text}
 use Rattle.print.specs.Steps.{Out, pushes}
-use Rattle.print.proofs.Pushes.{and_then}
+use Rattle.print.proofs.Pushes.{pushes_append}
 -- Named so that the examples are checked before these lemmas.
 use Rattle.posting.specs.Examples
-use Rattle.posting.specs.Sheet.{Entry, entry, entry_line, heading, trace_entries, entries, per_page}
+use Rattle.posting.specs.Sheet.{Entry, entry, entry_line, heading, trace_entries, entries, per_page, right_aligned}
 use Rattle.posting.specs.Steps.{lines_at, lines_from}
 
 pub flatten_append : (a b : List (List ℕ)) → flatten (a ++ b) ≡ flatten a ++ flatten b
@@ -46,6 +48,11 @@ pub within_page : (i : ℕ) (e : Entry) → (i % per_page ≡ 0 → ⊥) → fla
 unfolding flatten
 within_page i e h = ap flatten (in_page i e h) ∙ append-nil (entry_line e)
 
+pub line_pushed : (o : Out) (t f : ℕ) (l : ℤ)
+    → pushes o (entry_line (entry t f l)) ≡ pushes (pushes (pushes (pushes (pushes (pushes o (right_aligned 3 (decimal t))) (space ∷ [])) (right_aligned 5 (decimal f))) (space ∷ [])) (right_aligned 3 (label_text l))) (line_feed ∷ [])
+unfolding entry_line pushes
+line_pushed o t f l = simp pushes_append
+
 -- ---- the fixes of a trace
 
 pub trace_length : (t f : ℕ) (ls : List ℤ) → length (trace_entries t f ls) ≡ length ls
@@ -53,48 +60,38 @@ unfolding trace_entries
 trace_length t f [] = refl
 trace_length t f (l ∷ ls) = ap suc (trace_length t (suc f) ls)
 
-module _ (o o₁ : Out) (ls : List ℤ) (i t f : ℕ) {v : Out} where
-  pub trace_on : f < length ls → o₁ ≡ pushes o (flatten (lines_at (i + f) (entry t f (get_or ls f (pos 0)))))
-      → pushes o (flatten (lines_from (i + f) (trace_entries t f (drop f ls)))) ≡ v
-      → pushes o₁ (flatten (lines_from (i + (f + 1)) (trace_entries t (f + 1) (drop (f + 1) ls)))) ≡ v
-  unfolding trace_entries lines_from
-  trace_on h e p =
-      let x = entry t f (get_or ls f (pos 0)) in
-      let rest = flatten (lines_from (i + (f + 1)) (trace_entries t (f + 1) (drop (f + 1) ls))) in
-      let k : suc (i + f) ≡ i + (f + 1) = omega arith in
-      let cut : lines_from (i + f) (trace_entries t f (drop f ls)) ≡ lines_at (i + f) x ++ lines_from (i + (f + 1)) (trace_entries t (f + 1) (drop (f + 1) ls)) =
-      rw (add-one f, drop-cons ls f (pos 0) h, k, add-one f) refl in
-      let d : flatten (lines_from (i + f) (trace_entries t f (drop f ls))) ≡ flatten (lines_at (i + f) x) ++ rest =
-      ap flatten cut ∙ flatten_append (lines_at (i + f) x) (lines_from (i + (f + 1)) (trace_entries t (f + 1) (drop (f + 1) ls))) in
-      and_then o o₁ (pushes o₁ rest) (flatten (lines_at (i + f) x)) rest e refl ∙ ap (pushes o) (sym d) ∙ p
+pub trace_next : (o : Out) (ls : List ℤ) (i t f : ℕ) → f < length ls
+    → pushes o (flatten (lines_from (i + f) (trace_entries t f (drop f ls))))
+    ≡ pushes (pushes o (flatten (lines_at (i + f) (entry t f (get_or ls f (pos 0)))))) (flatten (lines_from (i + (f + 1)) (trace_entries t (f + 1) (drop (f + 1) ls))))
+unfolding trace_entries lines_from
+trace_next o ls i t f h =
+    let k : i + suc f ≡ suc (i + f) = omega arith in
+    let here = lines_at (i + f) (entry t f (get_or ls f (pos 0))) in
+    let rest = lines_from (suc (i + f)) (trace_entries t (suc f) (drop (suc f) ls)) in
+    rw (drop-cons ls f (pos 0) h, add-one f, k, flatten_append here rest) (pushes_append o (flatten here) (flatten rest))
 
-pub trace_end : (o : Out) (ls : List ℤ) (i t f : ℕ) {v : Out} → length ls ≤ f → pushes o (flatten (lines_from (i + f) (trace_entries t f (drop f ls)))) ≡ v → o ≡ v
+pub trace_done : (o : Out) (ls : List ℤ) (i t f : ℕ) → length ls ≤ f → pushes o (flatten (lines_from (i + f) (trace_entries t f (drop f ls)))) ≡ o
 unfolding trace_entries lines_from flatten pushes
-trace_end o ls i t f h p = rw (drop_of_length-le ls {i = f} h) at p
+trace_done o ls i t f h = rw (drop_of_length-le ls {i = f} h)
 
 -- ---- the fixes of all traces
 
 -- The next trace: its labels are the first of those that are left.
-pub sheet_on : (o o₁ : Out) (lens : List ℕ) (ls : List ℤ) (t i j : ℕ) {v : Out} → t < length lens → get_or lens t 0 ≤ length ls → j ≡ i + get_or lens t 0
-    → o₁ ≡ pushes o (flatten (lines_from i (trace_entries t 0 (take (get_or lens t 0) ls))))
-    → pushes o (flatten (lines_from i (entries t (drop t lens) ls))) ≡ v
-    → pushes o₁ (flatten (lines_from j (entries (t + 1) (drop (t + 1) lens) (drop (get_or lens t 0) ls)))) ≡ v
+pub sheet_next : (o : Out) (lens : List ℕ) (ls : List ℤ) (t i : ℕ) → t < length lens → get_or lens t 0 ≤ length ls
+    → let k = get_or lens t 0 in pushes o (flatten (lines_from i (entries t (drop t lens) ls)))
+    ≡ pushes (pushes o (flatten (lines_from i (trace_entries t 0 (take k ls))))) (flatten (lines_from (i + k) (entries (t + 1) (drop (t + 1) lens) (drop k ls))))
 unfolding entries
-sheet_on o o₁ lens ls t i j h n a e p =
+sheet_next o lens ls t i h n =
     let k = get_or lens t 0 in
     let es = trace_entries t 0 (take k ls) in
-    let more = entries (t + 1) (drop (t + 1) lens) (drop k ls) in
-    let d : drop t lens ≡ k ∷ drop (t + 1) lens = rw (add-one t, drop-cons lens t 0 h) in
-    let b : entries t (drop t lens) ls ≡ es ++ more = rw (d, add-one t) in
-    let c : lines_from i (es ++ more) ≡ lines_from i es ++ lines_from j more =
-    lines_append i es more ∙ ap (λ (z : ℕ). lines_from i es ++ lines_from z more) (ap (λ (z : ℕ). i + z) (trace_length t 0 (take k ls) ∙ length-take-le k ls n) ∙ sym a) in
-    let q = ap flatten (ap (lines_from i) b ∙ c) ∙ flatten_append (lines_from i es) (lines_from j more) in
-    and_then o o₁ (pushes o₁ (flatten (lines_from j more))) (flatten (lines_from i es)) (flatten (lines_from j more)) e refl ∙ ap (pushes o) (sym q) ∙ p
+    let more = entries (suc t) (drop (suc t) lens) (drop k ls) in
+    let long : length es ≡ k = trace_length t 0 (take k ls) ∙ length-take-le k ls n in
+    rw (drop-cons lens t 0 h, add-one t, lines_append i es more, long, flatten_append (lines_from i es) (lines_from (i + k) more))
+    (pushes_append o (flatten (lines_from i es)) (flatten (lines_from (i + k) more)))
 
-pub sheet_end : (o : Out) (lens : List ℕ) (ls : List ℤ) (t i : ℕ) {v : Out} → length lens ≤ t
-    → pushes o (flatten (lines_from i (entries t (drop t lens) ls))) ≡ v → o ≡ v
+pub sheet_done : (o : Out) (lens : List ℕ) (ls : List ℤ) (t i : ℕ) → length lens ≤ t → pushes o (flatten (lines_from i (entries t (drop t lens) ls))) ≡ o
 unfolding entries lines_from flatten pushes
-sheet_end o lens ls t i h p = rw (drop_of_length-le lens {i = t} h) at p
+sheet_done o lens ls t i h = rw (drop_of_length-le lens {i = t} h)
 
 -- The next trace ends within the n labels that are left, and the lengths of those after it add up to the rest.
 module _ (lens : List ℕ) (t n : ℕ) (h : t < length lens) (sum : total (drop t lens) ≡ n) where

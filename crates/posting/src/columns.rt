@@ -47,6 +47,7 @@ fn put_number(out: &mut Output, w: u32, n: u64)
 }
 
 // A label in 3 columns.
+#[tactic(auto, using(crate::proofs::Labels::few_digits, crate::proofs::Labels::none_column, print::proofs::LabelLines::number_text))]
 fn put_label(out: &mut Output, l: i32)
     requires { in_column l ≡ true }
     ensures { Wrote out.old out.new (right_aligned 3 (label_text l)) }
@@ -58,6 +59,7 @@ fn put_label(out: &mut Output, l: i32)
 }
 
 // The line of a fix.
+#[tactic(auto, using(crate::proofs::LinesFrom::line_pushed))]
 fn put_line(out: &mut Output, t: u64, f: u64, l: i32)
     requires { Within t f l }
     ensures { Wrote out.old out.new (entry_line (entry t f l)) }

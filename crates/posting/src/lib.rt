@@ -39,6 +39,7 @@ fn check_sheet(lens: &[u32], labels: &[i32], room: usize) -> Result<(), Refusal>
 // Writes the sheet as far as there is room, and hands back how many bytes are written. Building block: labels and lengths are checked already.
 // Kept as it is: this, `put_lines` and `print` of crate `reply` ask `SheetWithin` of the two slices, by a clause. A struct of them with that for a ghost field
 // would be made from two slices right before each call (`print` hands the same two to `print_labels`, which asks nothing), and taken apart right behind it.
+#[tactic(auto, using(crate::proofs::Pages::sheet_lines, print::proofs::Room::into_pushed, print::proofs::Room::count_pushed))]
 pub fn write_sheet(lens: &[u32], labels: &[i32], out: &mut [u8]) -> usize
     requires { SheetWithin lens.now labels.now }
     ensures { Writes (Sheet·sheet lens.now labels.now) out.old result out.new }
@@ -52,7 +53,7 @@ pub fn write_sheet(lens: &[u32], labels: &[i32], out: &mut [u8]) -> usize
 }
 
 // The posting sheet of traces of these lengths, whose fixes have these labels, into the front of `out`: how many bytes it has, or the refusal.
-#[tactic(auto, using(crate::proofs::Checked::sheet_within, crate::proofs::Writing::ends_refused))]
+#[tactic(auto, using(crate::proofs::Checked::sheet_within, crate::proofs::Writing::ends_refused, crate::proofs::Writing::sheet_posted))]
 pub fn posting_sheet(lens: &[u32], labels: &[i32], out: &mut [u8]) -> Result<usize, Refusal>
     ensures { ends result out.new ≡ post_sheet lens.now labels.now out.old }
 {

@@ -1,7 +1,7 @@
 -- Labels and their lines, as the loops write them.
-use mathlib.Core.Path.{◌≡◌, refl, sym, ap, ◌∙◌}
-use mathlib.Core.List.{List, [], ◌∷◌, ◌++◌}
-use Prim.Native.Nat.{ℕ, ◌+◌, ◌≤◌, ◌<◌, min}
+use mathlib.Core.Path.{◌≡◌, refl}
+use mathlib.Core.List.{List, [], ◌∷◌}
+use Prim.Native.Nat.{ℕ, suc, ◌+◌, ◌≤◌, ◌<◌, min}
 use native.Mathlib.Numerals.{add-one}
 use native.Mathlib.Omega.{arith}
 use lib.ListN.{length, get_or, take, drop, drop_of_length-le}
@@ -11,52 +11,64 @@ use Rattle.std.specs.Int.{FitsUnsignedBits}
 use Rattle.std.proofs.lemmas.List.{take_min, drop_min}
 use mir.Syntax.{w32}
 use mir.Val.{SFits}
-use Rattle.print.specs.Lines.{decimal, label_text, line, trace_lines, lines}
+use Rattle.settings.specs.declared.refusal.Refusal.{Refusal}
+use Rattle.settings.specs.Refusals.{number_of, trace_of}
+use Rattle.text.specs.Bytes.{line_feed, space}
+use Rattle.print.specs.Lines.{decimal, label_text, line, trace_lines, lines, label_names, labels_text, refused_names, refusal_text}
 use Rattle.print.specs.Steps.{Out, pushes}
-use Rattle.print.proofs.Pushes.{and_then}
+use Rattle.print.proofs.Pushes.{pushes_append}
 
 -- ---- labels
 
-pub label_number : (o o₁ : Out) (l : ℤ) (n : ℕ) → FitsUnsignedBits 64 l × (n ≡ nat_abs l) → o₁ ≡ pushes o (decimal n) → o₁ ≡ pushes o (label_text l)
+pub number_text : (l : ℤ) → FitsUnsignedBits 64 l → label_text l ≡ decimal (nat_abs l)
 unfolding label_text
-label_number o o₁ (pos m) n f p = rw f.1 at p
-label_number o o₁ (negsuc m) n f p = absurd f.0
+number_text (pos m) f = refl
+number_text (negsuc m) f = absurd f
 
-pub label_none : (o o₁ : Out) (l : ℤ) → SFits w32 l → (FitsUnsignedBits 64 l → ⊥) → o₁ ≡ pushes o (45 ∷ 49 ∷ []) → o₁ ≡ pushes o (label_text l)
+pub none_text : (l : ℤ) → SFits w32 l → (FitsUnsignedBits 64 l → ⊥) → label_text l ≡ 45 ∷ 49 ∷ []
 unfolding label_text
-label_none o o₁ (pos m) s f p = absurd (f (omega (arith, s.sfits)))
-label_none o o₁ (negsuc m) s f p = p
+none_text (pos m) s f = absurd (f (omega (arith, s.sfits)))
+none_text (negsuc m) s f = refl
+
+-- ---- a line
+
+pub line_pushed : (o : Out) (t f : ℕ) (l : ℤ)
+    → pushes o (line t f l) ≡ pushes (pushes (pushes (pushes (pushes (pushes o (decimal t)) (space ∷ [])) (decimal f)) (space ∷ [])) (label_text l)) (line_feed ∷ [])
+unfolding line pushes
+line_pushed o t f l = simp pushes_append
 
 -- ---- the lines of a trace
 
-pub trace_on : (o o₁ : Out) (ls : List ℤ) (t f : ℕ) {v : Out} → f < length ls → o₁ ≡ pushes o (line t f (get_or ls f (pos 0)))
-    → pushes o (trace_lines t f (drop f ls)) ≡ v → pushes o₁ (trace_lines t (f + 1) (drop (f + 1) ls)) ≡ v
+pub trace_next : (o : Out) (ls : List ℤ) (t f : ℕ) → f < length ls
+    → pushes o (trace_lines t f (drop f ls)) ≡ pushes (pushes o (line t f (get_or ls f (pos 0)))) (trace_lines t (f + 1) (drop (f + 1) ls))
 unfolding trace_lines
-trace_on o o₁ ls t f h e p =
-    let w = trace_lines t (f + 1) (drop (f + 1) ls) in
-    let d : trace_lines t f (drop f ls) ≡ line t f (get_or ls f (pos 0)) ++ w = rw (drop-cons ls f (pos 0) h, add-one f) in
-    and_then o o₁ (pushes o₁ w) (line t f (get_or ls f (pos 0))) w e refl ∙ ap (pushes o) (sym d) ∙ p
+trace_next o ls t f h = rw (drop-cons ls f (pos 0) h, add-one f) (pushes_append o (line t f (get_or ls f (pos 0))) (trace_lines t (suc f) (drop (suc f) ls)))
 
-pub trace_end : (o : Out) (ls : List ℤ) (t f : ℕ) {v : Out} → length ls ≤ f → pushes o (trace_lines t f (drop f ls)) ≡ v → o ≡ v
+pub trace_done : (o : Out) (ls : List ℤ) (t f : ℕ) → length ls ≤ f → pushes o (trace_lines t f (drop f ls)) ≡ o
 unfolding trace_lines pushes
-trace_end o ls t f h p = rw (drop_of_length-le ls {i = f} h) at p
+trace_done o ls t f h = rw (drop_of_length-le ls {i = f} h)
 
 -- ---- the lines of all traces
 
 -- The next trace: its labels are the first of those that are left.
-pub lines_on : (o o₁ : Out) (lens : List ℕ) (ls : List ℤ) (t k : ℕ) {v : Out} → t < length lens → k ≡ min (get_or lens t 0) (length ls)
-    → o₁ ≡ pushes o (trace_lines t 0 (take k ls)) → pushes o (lines t (drop t lens) ls) ≡ v
-    → pushes o₁ (lines (t + 1) (drop (t + 1) lens) (drop k ls)) ≡ v
+pub lines_next : (o : Out) (lens : List ℕ) (ls : List ℤ) (t : ℕ) → t < length lens
+    → let k = min (get_or lens t 0) (length ls) in pushes o (lines t (drop t lens) ls) ≡ pushes (pushes o (trace_lines t 0 (take k ls))) (lines (t + 1) (drop (t + 1) lens) (drop k ls))
 unfolding lines
-lines_on o o₁ lens ls t k h m e p =
+lines_next o lens ls t h =
     let n = get_or lens t 0 in
-    let d : drop t lens ≡ n ∷ drop (t + 1) lens = rw (add-one t, drop-cons lens t 0 h) in
-    let a : take k ls ≡ take n ls = ap (λ (q : ℕ). take q ls) m ∙ take_min n ls in
-    let b : drop k ls ≡ drop n ls = ap (λ (q : ℕ). drop q ls) m ∙ drop_min n ls in
-    let w = lines (t + 1) (drop (t + 1) lens) (drop n ls) in
-    let q : lines t (drop t lens) ls ≡ trace_lines t 0 (take n ls) ++ w = rw (d, add-one t) in
-    rw b (and_then o o₁ (pushes o₁ w) (trace_lines t 0 (take n ls)) w (rw a at e) refl ∙ ap (pushes o) (sym q) ∙ p)
+    rw (drop-cons lens t 0 h, add-one t, take_min n ls, drop_min n ls) (pushes_append o (trace_lines t 0 (take n ls)) (lines (suc t) (drop (suc t) lens) (drop n ls)))
 
-pub lines_end : (o : Out) (lens : List ℕ) (ls : List ℤ) (t : ℕ) {v : Out} → length lens ≤ t → pushes o (lines t (drop t lens) ls) ≡ v → o ≡ v
+pub lines_done : (o : Out) (lens : List ℕ) (ls : List ℤ) (t : ℕ) → length lens ≤ t → pushes o (lines t (drop t lens) ls) ≡ o
 unfolding lines pushes
-lines_end o lens ls t h p = rw (drop_of_length-le lens {i = t} h) at p
+lines_done o lens ls t h = rw (drop_of_length-le lens {i = t} h)
+
+pub labels_pushed : (o : Out) (lens : List ℕ) (ls : List ℤ) → pushes o (labels_text lens ls) ≡ pushes (pushes o label_names) (lines 0 lens ls)
+unfolding labels_text
+labels_pushed o lens ls = pushes_append o label_names (lines 0 lens ls)
+
+-- ---- a refusal
+
+pub refusal_pushed : (o : Out) (e : Refusal)
+    → pushes o (refusal_text e) ≡ pushes (pushes (pushes (pushes (pushes o refused_names) (decimal (number_of e))) (space ∷ [])) (decimal (trace_of e))) (line_feed ∷ [])
+unfolding refusal_text pushes
+refusal_pushed o e = simp pushes_append

@@ -4,14 +4,21 @@ use mathlib.Core.List.{List, [], ◌∷◌, ◌++◌}
 use Prim.Native.Nat.{ℕ, zero, suc, ◌+◌, ◌-◌, ◌/◌, ◌%◌, ◌≤◌, ◌<◌}
 use native.Mathlib.Omega.{arith}
 use borrow.Author.Tests.{lt-ltb, le-ltb}
+use native.Mathlib.Numerals.{add-one}
+use lib.ListN.{length, get_or, take}
+use lib.Seq.{take-suc}
 use Rattle.print.specs.Lines.{digits}
 use Rattle.print.specs.declared.bytes.Output.{Output}
 use Rattle.print.specs.Steps.{Out, push, pushes, Wrote}
 
-pushes_append : (o : Out) (a b : List ℕ) → pushes o (a ++ b) ≡ pushes (pushes o a) b
+pub pushes_append : (o : Out) (a b : List ℕ) → pushes o (a ++ b) ≡ pushes (pushes o a) b
 unfolding pushes
 pushes_append o [] b = refl
 pushes_append o (x ∷ a) b = pushes_append (push o x) a b
+
+-- The first bytes of a text.
+pub first_next : (o : Out) (text : List ℕ) (k : ℕ) → k < length text → pushes o (take (k + 1) text) ≡ pushes (pushes o (take k text)) (get_or text k 0 ∷ [])
+first_next o text k h = rw (add-one, take-suc text k 0 h) (pushes_append o (take k text) (get_or text k 0 ∷ []))
 
 -- One text after another.
 pub and_then : (o o₁ o₂ : Out) (a b : List ℕ) → o₁ ≡ pushes o a → o₂ ≡ pushes o₁ b → o₂ ≡ pushes o (a ++ b)
@@ -37,13 +44,5 @@ digits_more o o₁ o₂ (suc f) n z h p q =
 
 -- ---- what is written into a slice
 
-pub wrote_none : (o : Output) → Wrote o o []
-unfolding pushes
-wrote_none o = record { same = refl; written = refl }
-
 pub wrote_then : (o o₁ o₂ : Output) (a b : List ℕ) → Wrote o o₁ a → Wrote o₁ o₂ b → Wrote o o₂ (a ++ b)
 wrote_then o o₁ o₂ a b p q = record { same = q.same ∙ p.same; written = and_then _ _ _ a b p.written q.written }
-
--- A byte, and a text after it.
-pub wrote_byte : (o o₁ o₂ : Output) (x : ℕ) (b : List ℕ) → Wrote o o₁ (x ∷ []) → Wrote o₁ o₂ b → Wrote o o₂ (x ∷ b)
-wrote_byte o o₁ o₂ x b p q = wrote_then o o₁ o₂ (x ∷ []) b p q

@@ -12,9 +12,7 @@ use Rattle.lists.specs.Lists.{overlay}
 use Rattle.lists.proofs.Overlay.{length_overlay}
 use Rattle.text.specs.Parsed.{into}
 use Rattle.text.proofs.Columns.{into_nil, into_more}
-use Rattle.print.specs.Written.{Writes}
-use Rattle.print.specs.declared.bytes.Output.{Output}
-use Rattle.print.specs.Steps.{Out, out, push, pushes, Wrote}
+use Rattle.print.specs.Steps.{Out, out, push, pushes}
 
 module _ (l : List ℕ) where
   -- The slice l with the text t in front.
@@ -60,13 +58,15 @@ module _ (l : List ℕ) where
   unfolding written
   nothing = rw (into_nil l, take-nil {A = ℕ} (length l))
 
-  -- From the start of the slice.
-  pub writes : (bs l' : List ℕ) (r : ℕ) → out l' r ≡ pushes (out l 0) bs → Writes bs l r l'
-  unfolding written
-  writes bs l' r e =
-      let w : out l' r ≡ written bs = e ∙ ap (λ (o : Out). pushes o bs) (sym nothing) ∙ written_all bs [] in
-      record { bytes = ap (λ (o : Out). o.bytes) w; count = ap (λ (o : Out). o.used) w }
+module _ (l t : List ℕ) where
+  all_pushed : written l t ≡ pushes (out l 0) t
+  all_pushed = sym (written_all l t []) ∙ ap (λ (o : Out). pushes o t) (nothing l)
 
--- What a slice holds when all is written: it is lent to o, from its start on, and has come back from o'.
-pub written_back : (o o' : Output) (bs l' : List ℕ) → o.used ≡ 0 → Wrote o o' bs → l' ≡ o'.bytes.now → Writes bs o.bytes.now o'.used l'
-written_back o o' bs l' z w e = writes o.bytes.now bs l' o'.used (ap (λ (l : List ℕ). out l o'.used) e ∙ w.written ∙ ap (λ (n : ℕ). pushes (out o.bytes.now n) bs) z)
+  -- Where a text is written from the start of a slice.
+  pub into_pushed : into l t ≡ (pushes (out l 0) t).bytes
+  unfolding written
+  into_pushed = ap (λ (o : Out). o.bytes) all_pushed
+
+  pub count_pushed : length (take (length l) t) ≡ (pushes (out l 0) t).used
+  unfolding written
+  count_pushed = ap (λ (o : Out). o.used) all_pushed

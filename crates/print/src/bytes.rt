@@ -24,6 +24,7 @@ impl Output<'_> {
         }
     }
 
+    #[tactic(auto, using(crate::proofs::Pushes::first_next), unfolding(crate::specs::Steps::pushes))]
     pub fn push_all(&mut self, text: &[u8])
         ensures { Wrote self.old self.new text.now }
     {

@@ -11,6 +11,7 @@ pub mod bytes;
 mod lines;
 
 // The labels of the fixes of all traces; `lens` are the lengths of the traces. Hands back how many bytes are written.
+#[tactic(auto, using(crate::proofs::LabelLines::labels_pushed, crate::proofs::Room::into_pushed, crate::proofs::Room::count_pushed), unfolding(crate::specs::Lines::label_names))]
 pub fn print_labels(lens: &[u32], labels: &[i32], out: &mut [u8]) -> usize
     ensures { Writes (labels_text lens.now labels.now) out.old result out.new }
 {
@@ -24,6 +25,7 @@ pub fn print_labels(lens: &[u32], labels: &[i32], out: &mut [u8]) -> usize
 }
 
 // A refusal. Hands back how many bytes are written.
+#[tactic(auto, using(crate::proofs::LabelLines::refusal_pushed, crate::proofs::Room::into_pushed, crate::proofs::Room::count_pushed), unfolding(crate::specs::Lines::refused_names))]
 pub fn print_refusal(e: Refusal, out: &mut [u8]) -> usize
     ensures { Writes (refusal_text e) out.old result out.new }
 {

@@ -6,6 +6,7 @@ use crate::bytes::Output;
 
 impl Output<'_> {
     // A label, or -1.
+    #[tactic(auto, using(crate::proofs::LabelLines::number_text, crate::proofs::LabelLines::none_text))]
     fn put_label(&mut self, l: i32)
         ensures { Wrote self.old self.new (label_text l) }
     {
@@ -18,6 +19,7 @@ impl Output<'_> {
     // A line `trace fix label`.
     // Kept as it is: three numbers, here and in `put_fix` and `put_line` of crate `posting`: a struct of them would be made in one loop over the labels of a
     // trace, and taken apart one or two calls further on.
+    #[tactic(auto, using(crate::proofs::LabelLines::line_pushed))]
     fn put_line(&mut self, t: u64, f: u64, l: i32)
         ensures { Wrote self.old self.new (Lines·line t f l) }
     {
@@ -30,6 +32,7 @@ impl Output<'_> {
     }
 
     // The lines of trace t, whose fixes have these labels.
+    #[tactic(auto, using(crate::proofs::LabelLines::trace_next, crate::proofs::LabelLines::trace_done))]
     fn put_trace(&mut self, t: u64, labels: &[i32])
         ensures { Wrote self.old self.new (trace_lines t 0 labels.now) }
     {
@@ -40,6 +43,7 @@ impl Output<'_> {
 
     // The lines of all traces. Where there are fewer labels than the lengths say, those that are there.
     // Kept as it is, beside `put_lines` of crate `posting`: the line there says why.
+    #[tactic(auto, using(crate::proofs::LabelLines::lines_next, crate::proofs::LabelLines::lines_done))]
     pub fn put_lines(&mut self, lens: &[u32], labels: &[i32])
         ensures { Wrote self.old self.new (Lines·lines 0 lens.now labels.now) }
     {

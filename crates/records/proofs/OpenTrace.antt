@@ -12,7 +12,7 @@ use lib.ListN.{length}
 use Rattle.trace.specs.Trace.{Fix, time_of, timed}
 use Rattle.settings.specs.declared.refusal.Refusal.TheVariants.{PartlyTimed, TimeOrder}
 use Rattle.settings.specs.Checks.{Checked, refuse_if, first_of, in_turn, each_of}
-use Rattle.checks.specs.Steps.{given}
+use Rattle.trace.specs.StepsFixes.{given}
 use Rattle.checks.specs.Traces.{above, above_first, in_time_order, untimed, partly_timed, check_fix, check_times, check_trace}
 use Rattle.trace.proofs.Fixes.{has_time_lem}
 use Rattle.settings.proofs.Turns.{first_alone}

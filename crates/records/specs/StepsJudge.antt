@@ -7,7 +7,7 @@ use Rattle.settings.specs.declared.config.Config.{Config}
 use Rattle.settings.specs.declared.refusal.Refusal.TheVariants.{EmptyTrace, PartlyTimed, TimeOrder, TimeMark}
 use Rattle.settings.specs.Checks.{Checked, refuse_if, first_of, in_turn}
 use Rattle.settings.specs.Settings.{check_config}
-use Rattle.checks.specs.Steps.{given}
+use Rattle.trace.specs.StepsFixes.{given}
 use Rattle.checks.specs.Traces.{above, check_fix, check_fix_size}
 use Rattle.checks.specs.Tracks.{check_lengths, check_counts, check_work, check_tracks}
 use Rattle.records.specs.declared.FixRecord.{FixRecord}

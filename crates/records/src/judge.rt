@@ -9,6 +9,7 @@ use crate::FixRecord;
 use settings::refusal::Refusal;
 
 // The times of the open trace so far: whether all are there, none is, and each is at most the next; the time of the last fix.
+// Kept as it is: `timed` and `untimed` are two flags, and no enum: before the first fix both hold, and after a mixed start none does.
 #[derive(Clone, Copy, Debug, PartialEq)]
 pub struct Times {
     pub timed: bool,
@@ -19,6 +20,8 @@ pub struct Times {
 
 // What the records so far say. marks: each mark is 0 or 1. first: the first refusal of 11 to 15. far: the first of 16. trace: the open
 // trace. left: how many of its fixes are still to come.
+// Kept as it is: `lens` goes beside a `Judge` through `next`, `step` and `decide`. It is the caller's, and the same for all records; of a field each step would
+// have to promise that it is the same still.
 #[derive(Clone, Copy, Debug, PartialEq)]
 pub struct Judge {
     pub marks: bool,
@@ -31,8 +34,8 @@ pub struct Judge {
 
 impl FixRecord {
     // The time, where the mark is 1.
-    // Kept as it is: beside the function of `checks` for the time of a fix in columns, which takes them and a place, so as not to read the value beside
-    // another mark (docs/RULES.md, "Time marks"). A record goes by value, with its time.
+    // Kept as it is: beside the iterator over the fixes of a trace, which takes a time from its column only where the mark is 1 (docs/RULES.md, "Time
+    // marks"). A record goes by value, with its time.
     fn marked_time(self) -> Option<f64>
         ensures { result ≡ marked_time self }
     {

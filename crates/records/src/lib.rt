@@ -42,6 +42,8 @@ fn judge_records(fixes: &[FixRecord], lens: &[u32]) -> Judge
 }
 
 // All records into the front of the columns and of the marks.
+// Kept as it is: written by index, since one slice holds three of the columns, and of what a slice holds after a loop over its `iter_mut` beside another
+// iterator nothing is told, as `renew_first` of map_state has it.
 #[tactic(auto, using(crate::proofs::Columns::columns_end, crate::proofs::Columns::marks_end))]
 fn take_apart(fixes: &[FixRecord], columns: &mut [f64], marks: &mut [u8])
     requires { (3 * length fixes.now ≤ length columns.old) × (length fixes.now ≤ length marks.old) }
@@ -80,7 +82,7 @@ fn refuse(model: Infostop, e: Refusal) -> Fit
     Fit { answer, model }
 }
 
-// The fit of n records that pass, taken apart in the front of the columns and of the marks.
+// The fit of n records that pass, taken apart in the front of the columns and of the marks. The lent slices are parameters, as in `fit_records`.
 fn fit_taken(
     model: Infostop,
     n: usize,

@@ -12,6 +12,8 @@ ghost use Rattle.std.specs.Float.Ieee.{of_bits, to_bits};
 ghost use Rattle.float.specs.Binary64.{same_bits};
 ghost use Rattle.replay.specs.Numbers.{with_digit, value_at, after, past, text_at};
 
+use distance::{Point, Points};
+
 // Where a program reads its input and prints its output.
 pub const STDIN_FILENO: i32 = 0;
 
@@ -25,7 +27,8 @@ pub fn room() -> [u8; 1000000]
 }
 
 // Reads a list of unsigned decimal numbers, and texts between them: the list, and the place from which on it is read.
-// Kept as it is: no equality and no copy is derived of it, since a reader is moved along its list, and two of one list would be a mistake.
+// Kept as it is: no equality and no copy is derived of it, since a reader is moved along its list, and two of one list would be a mistake. It has a place
+// beside the whole list, and no slice of what is left: the definitions of what it reads go by places.
 #[derive(Debug, Drop)]
 pub struct Numbers<'a> {
     pub text: &'a [u8],
@@ -213,27 +216,28 @@ pub fn print_each<T: Copy, F: Fn(T)>(items: &[T], print: F)
     }
 }
 
-// Prints the bits of x and y of each point, each behind a space.
-// Kept as it is: two slices, here and in `print_places`, and no `Points` of crate `distance`: a report writes into two slices that know nothing of each other.
-pub fn print_points(xs: &[f64], ys: &[f64]) {
-    for (&x, &y) in xs.iter().zip(ys) {
-        space();
-        print_float(x);
-        space();
-        print_float(y);
+// Prints the bits of x and y, each behind a space.
+fn print_point(p: Point) {
+    space();
+    print_float(p.x);
+    space();
+    print_float(p.y);
+}
+
+// Prints x and y of each point.
+pub fn print_points(points: Points) {
+    for p in points.iter() {
+        print_point(p);
     }
 }
 
 // Prints the number of places, and of each one x, y and the item of `column`.
-pub fn print_places<T: Copy, F: Fn(T)>(xs: &[f64], ys: &[f64], column: &[T], print: F)
+pub fn print_places<T: Copy, F: Fn(T)>(places: Points, column: &[T], print: F)
     requires { F.IsAlwaysCallable print }
 {
-    print_number(xs.len() as u64);
-    for ((&x, &y), &item) in xs.iter().zip(ys).zip(column) {
-        space();
-        print_float(x);
-        space();
-        print_float(y);
+    print_number(places.len() as u64);
+    for (p, &item) in places.iter().zip(column) {
+        print_point(p);
         space();
         print(item);
     }

@@ -1,24 +1,19 @@
 -- Laws of the reading of a case: one place of a list more, the sum of the lengths so far, and a float.
-use Rattle.std.proofs.Common.{◌≡◌, ℕ, ◌+◌, ◌<◌, ◌≤◌, min, List, length, set, drop, refl, sym, ap, ◌∙◌, add-one, arith}
+use Rattle.std.proofs.Common.{◌≡◌, ℕ, suc, ◌+◌, ◌*◌, ◌<◌, ◌≤◌, min, List, length, set, drop, refl, add-one, arith}
 use Rattle.std.proofs.Math.ListN.{get_or, drop_of_length-le}
 use Rattle.std.proofs.Math.Seq.{drop-cons}
-use Rattle.std.specs.Float.{binary64}
-use Rattle.std.specs.Float.Ieee.{Float, of_bits}
 use Rattle.trace.specs.Trace.{total}
-use Rattle.replay.specs.declared.Numbers.{Numbers}
-use Rattle.replay.specs.Numbers.{value_at, past}
-use Rattle.replay.proofs.Past.{read_at}
-use Rattle.replay_case.specs.Case.{float_at, filled}
+use Rattle.replay.specs.Numbers.{skip}
+use Rattle.replay_case.specs.Case.{filled}
 
 module _ {A : Type 0} (f : ℕ → A) where
   pub filled_none : (l : List A) → l ≡ filled f 0 l
   unfolding filled
   filled_none l = refl
 
-  -- One place more.
-  pub filled_on : (n : ℕ) (l s : List A) (v : A) → s ≡ filled f n l → v ≡ f n → set s n v ≡ filled f (n + 1) l
+  pub filled_one_more : (n : ℕ) (l : List A) → filled f (n + 1) l ≡ set (filled f n l) n (f n)
   unfolding filled
-  filled_on n l s v e h = ap (λ (r : List A). set r n v) e ∙ ap (set (filled f n l) n) h ∙ sym (ap (λ (k : ℕ). filled f k l) (add-one n))
+  filled_one_more n l = rw (add-one n)
 
 module _ (l : List ℕ) (k c : ℕ) where
   -- One length more.
@@ -33,7 +28,20 @@ module _ (l : List ℕ) (k c : ℕ) where
       let none : total (drop k l) ≡ 0 = rw (drop_of_length-le l h) in
       omega arith
 
--- A float is read where n numbers are passed.
-pub float_read : (s p : Numbers) (n : ℕ) (x : Float) → p ≡ past s n → x ≡ of_bits binary64 (value_at p.text.now p.at) → x ≡ float_at s.text.now s.at n
-unfolding float_at
-float_read s p n x h e = e ∙ ap (of_bits binary64) (read_at s p n h)
+-- Where the numbers of a fix stand.
+module _ (t : List ℕ) (i k : ℕ) where
+  pub skip_y : skip t i (4 * k + 1) ≡ skip t (skip t i (4 * k)) 1
+  unfolding skip
+  skip_y = rw (add-one (4 * k))
+
+  pub skip_mark : skip t i (4 * k + 2) ≡ skip t (skip t (skip t i (4 * k)) 1) 1
+  unfolding skip
+  skip_mark = let e : 4 * k + 2 ≡ suc (suc (4 * k)) = omega arith in rw e
+
+  pub skip_time : skip t i (4 * k + 3) ≡ skip t (skip t (skip t (skip t i (4 * k)) 1) 1) 1
+  unfolding skip
+  skip_time = let e : 4 * k + 3 ≡ suc (suc (suc (4 * k))) = omega arith in rw e
+
+  pub skip_fix : skip t i (4 * (k + 1)) ≡ skip t (skip t (skip t (skip t (skip t i (4 * k)) 1) 1) 1) 1
+  unfolding skip
+  skip_fix = let e : 4 * (k + 1) ≡ suc (suc (suc (suc (4 * k)))) = omega arith in rw e

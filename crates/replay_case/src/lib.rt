@@ -1,10 +1,10 @@
 // For the programs that run fits: settings, trace lengths and fixes, read from a list of cases, and a refusal printed.
 #![tactic(auto)]
 
-ghost use Rattle.std.specs.Prelude.{◌≡◌, min, length};
+ghost use Rattle.std.specs.Prelude.{◌≡◌, min};
 ghost use Rattle.trace.specs.Trace.{total};
 ghost use Rattle.replay.specs.Numbers.{value_at, past};
-ghost use Rattle.replay_case.specs.Case.{settings_at, length_of, mark_of, LensRead, FixesRead};
+ghost use Rattle.replay_case.specs.Case.{settings_at, mark_of, LensRead, FixesRead};
 
 use lists::put;
 use replay::Numbers;
@@ -41,7 +41,7 @@ pub fn next_mark(list: &mut Numbers) -> u8
 }
 
 // Reads as many trace lengths as the slice is long.
-#[tactic(auto, using(crate::proofs::Read::filled_none, replay::proofs::Past::past_none))]
+#[tactic(auto, using(crate::proofs::Read::filled_none, crate::proofs::Read::filled_one_more, replay::proofs::Past::past_more, replay::proofs::Past::past_none), unfolding(replay::specs::Numbers::number_at))]
 pub fn read_lens(list: &mut Numbers, lens: &mut [u32])
     ensures read { LensRead list.old.text.now list.old.at lens.old lens.new list.new.at }
     ensures text { list.new.text ≡ list.old.text }
@@ -65,7 +65,7 @@ pub fn fix_count(lens: &[u32]) -> usize
 
 // Reads n fixes, `x y mark time` each, into the slices. What a slice has no room for is passed over.
 // Kept as it is: four slices, of any lengths, as the promise of this function has them; `columns::read_columns` reads into a struct that it makes.
-#[tactic(auto, using(crate::proofs::Read::filled_none, replay::proofs::Past::past_none))]
+#[tactic(auto, using(crate::proofs::Read::filled_none, crate::proofs::Read::filled_one_more, crate::proofs::Read::skip_y, crate::proofs::Read::skip_mark, crate::proofs::Read::skip_time, crate::proofs::Read::skip_fix), unfolding(replay::specs::Numbers::number_at, crate::specs::Case::float_at))]
 pub fn read_fixes(
     list: &mut Numbers,
     n: usize,

@@ -7,6 +7,7 @@
 
 ghost use Rattle.std.specs.Prelude.{◌≤◌, length};
 
+use distance::Points;
 use infostop::model::Infostop;
 use replay::{Numbers, STDOUT_FILENO};
 use replay_case::lens::Lens;
@@ -15,9 +16,8 @@ use trace::{Trace, Tracks};
 
 // The number of places, and x, y and label of each.
 fn print_places(m: Infostop) {
-    let places = m.points();
     replay::space();
-    replay::print_places(places.xs, places.ys, m.labels(), replay::print_label);
+    replay::print_places(m.points(), m.labels(), replay::print_label);
 }
 
 // Asks for the label medians of a fitted model, and prints their number and the medians.
@@ -31,7 +31,11 @@ fn print_medians(m: Infostop) {
         Ok(n) => {
             replay::print_number(n as u64);
             if n <= 512 {
-                replay::print_points(&xs[..n], &ys[..n]);
+                let medians = Points {
+                    xs: &xs[..n],
+                    ys: &ys[..n],
+                };
+                replay::print_points(medians);
             }
         }
     }

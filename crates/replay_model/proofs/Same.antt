@@ -18,7 +18,7 @@ same_settings m (fitted f) = refl
 pub settings_kept : {m : Infostop} {old : List ℤ} {o : Outcome} {r : Fit} {labels : List ℤ} → Ended m old o r labels → r.model.config ≡ m.config
 settings_kept {m} {o = o} e = ap (λ (n : Infostop). n.config) e.model ∙ same_settings m o
 
-pub columns_are : (a b : List Float) → length a ≡ length b → list_all (λ p. same_bits p.0 p.1) (zip a b) ≡ same_floats a b
+pub columns_are : (a b : List Float) → length a ≡ length b → same_floats a b ≡ list_all (λ p. same_bits p.0 p.1) (zip a b)
 columns_are [] [] e = refl
 columns_are [] (y ∷ b) e = cc
 columns_are (x ∷ a) [] e = cc

@@ -12,6 +12,7 @@ use settings::config::Config;
 use trace::Tracks;
 
 // A model with these settings that a fit of two linked places has altered. Refused settings: one that no fit has altered.
+#[tactic(auto, using(crate::proofs::Same::settings_kept), unfolding(infostop::specs::Models::from_config))]
 pub fn fitted_model(c: Config) -> Infostop
     ensures { result.config ≡ c }
 {
@@ -44,7 +45,7 @@ fn pairs_agree(a: &[f64], b: &[f64]) -> bool
     a.iter().zip(b).all(|(&x, &y)| float::same_bits(x, y))
 }
 
-#[tactic(auto, using(crate::proofs::Same::columns_differ))]
+#[tactic(auto, using(crate::proofs::Same::columns_are, crate::proofs::Same::columns_differ))]
 fn same_floats(a: &[f64], b: &[f64]) -> bool
     ensures { result ≡ same_floats a.now b.now }
 {

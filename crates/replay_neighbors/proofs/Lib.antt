@@ -1,2 +1,1 @@
-pub mod Nodes
 pub mod Places

@@ -3,9 +3,9 @@
 // Kept as it is: arrays of fixed size, of which a part is lent, since the project's memory is fixed and it takes no heap.
 #![tactic(auto)]
 
-ghost use Rattle.std.specs.Prelude.{◌≡◌, ◌*◌, ◌≤◌, length};
+ghost use Rattle.std.specs.Prelude.{◌*◌, ◌≤◌, length};
 
-use distance::{Point, Points};
+use distance::Points;
 use neighbors::nodes::Nodes;
 use neighbors::places::Places;
 use replay::Numbers;
@@ -14,19 +14,17 @@ use replay::Numbers;
 const MOST: usize = 128;
 
 // Reads as many medians as the slices have room for.
-fn read_medians(list: &mut Numbers, mx: &mut [f64], my: &mut [f64])
-    requires { length my.old ≡ length mx.old }
-{
-    for i in 0..mx.len() {
-        mx[i] = list.next_float();
-        my[i] = list.next_float();
+fn read_medians(list: &mut Numbers, mx: &mut [f64], my: &mut [f64]) {
+    for (x, y) in mx.iter_mut().zip(my) {
+        *x = list.next_float();
+        *y = list.next_float();
     }
 }
 
 // The number of the place of each median; one that has none gets the number of places.
 fn print_place_of(places: &Places, medians: Points) {
-    for (&x, &y) in medians.xs.iter().zip(medians.ys) {
-        let place = neighbors::places::place_of(places.points(), Point { x, y });
+    for m in medians.iter() {
+        let place = neighbors::places::place_of(places.points(), m);
         replay::space();
         replay::print_number(place.unwrap_or(places.len()) as u64);
     }
@@ -73,7 +71,7 @@ fn print_links(table: &[f64], nodes: &[u32]) {
 }
 
 // Finds the nodes of the table of p places, and makes it the table of the nodes; tells how many there are.
-#[tactic(auto, using(crate::proofs::Nodes::few, crate::proofs::Nodes::rise, crate::proofs::Nodes::lent))]
+#[tactic(auto, using(neighbors::proofs::FoundRows::found_few, neighbors::proofs::FoundRows::found_rise, neighbors::proofs::FoundRows::found_room, neighbors::proofs::FoundRows::found_length))]
 fn find_nodes(table: &mut [f64], p: usize, nodes: &mut [u32]) -> usize
     requires { (p ≤ 512) × (p * p ≤ length table.old) × (p ≤ length nodes.old) }
     ensures { result ≤ p }
@@ -116,12 +114,9 @@ fn print_answer(medians: Points, r2: f64)
             ys: &ys[..p],
             counts: &counts[..p],
         };
-        replay::print_places(
-            places.xs,
-            places.ys,
-            places.counts,
-            |count| replay::print_number(u64::from(count)),
-        );
+        replay::print_places(places.points(), places.counts, |count| {
+            replay::print_number(u64::from(count));
+        });
         print_place_of(&places, medians);
         answer_links(&places, r2);
     }

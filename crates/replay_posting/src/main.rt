@@ -68,7 +68,8 @@ fn print_posted(posted: Result<usize, Refusal>, out: &[u8], asked: Asked) {
 }
 
 // The output array. Its length is said, since lending it as a slice asks for it, and it is too long to be counted.
-// Kept as it is, beside `replay::room`: that one is of another size and another byte, and each says its length as a number.
+// Kept as it is, beside `replay::room`. Tried as one function of the size and the byte, and the proof didn't close: `room` promises what its bytes are, and
+// where that is known of 933,000 of them the check of `with_lens` runs out of stack.
 fn output() -> [u8; 933000]
     ensures { 933000 ≡ length result }
 {

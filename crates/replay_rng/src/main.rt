@@ -21,6 +21,7 @@ fn print_order(order: &mut [u32], seed: u64)
     requires { length order.old ≤ 512 }
 {
     let state = rng::draw_order(order, rng::seeded(seed));
+    // Kept as it is: the space stands behind each item, in this list and in that of replay_stay; `print_each` has it in front.
     for &item in order.iter() {
         replay::print_number(u64::from(item));
         replay::space();

@@ -21,8 +21,7 @@ fn print_stays(s: Config, t: Trace, work: &mut [f64], events: &mut [i32])
     }
     replay::print_number(k as u64);
     if k <= 400 {
-        let medians = stay::all::medians(work, 400, k);
-        replay::print_points(medians.xs, medians.ys);
+        replay::print_points(stay::all::medians(work, 400, k));
     }
     replay::line_end();
 }

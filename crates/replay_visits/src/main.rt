@@ -132,19 +132,12 @@ fn print_place_labels(m: Infostop, asked: Asked) {
     replay::line_end();
 }
 
-// The labels 0, 1, 2 and so on.
-fn count_up(labels: &mut [i32]) {
-    for (label, next) in labels.iter_mut().zip(0..) {
-        *label = next;
-    }
-}
-
 // Asks for the view of n labels, and prints the answer.
 fn print_view(lens: &[u32], n: usize, asked: Asked)
     requires { n ≤ 257 }
 {
     let mut labels = [0i32; 257];
-    count_up(&mut labels);
+    rng::fill(&mut labels);
     let k = lent(n, Slice::Labels, asked.short);
     let view = reports::view::trace_view(lens, &labels[..k], asked.trace);
     replay::print_number(u64::from(view.refusal_number()));

@@ -1,4 +1,4 @@
 pub mod Columns
 pub mod FitWithin
-pub mod Answers
+pub mod AnswerText
 pub mod Room

@@ -1,14 +1,13 @@
 -- The coordinates of a label's places, taken in one after the other.
-use mathlib.Core.Path.{◌≡◌, refl, sym, ap, ap₂, ◌∙◌}
+use mathlib.Core.Path.{◌≡◌, refl, sym, ap, ◌∙◌}
 use mathlib.Core.Bool.{true, false}
-use mathlib.Core.List.{List, ◌∷◌, ◌++◌}
-use Prim.Native.Nat.{ℕ, suc, ◌+◌, ◌<◌, ◌≤◌}
-use native.Mathlib.Numerals.{add-one}
+use mathlib.Core.List.{List, [], ◌∷◌, ◌++◌}
+use Prim.Native.Nat.{ℕ, ◌+◌, ◌<◌, ◌≤◌}
 use native.Mathlib.Omega.{arith}
-use lib.IntN.{ℤ, pos}
-use lib.ListN.{length, get_or, take, drop, drop_of_length-le}
-use lib.Seq.{drop-cons, take_at, take-append-le, length-take-le}
-use lib.Ieee.{Float, nan}
+use lib.IntN.{ℤ}
+use lib.ListN.{length, take, drop}
+use lib.Seq.{take_at, take-append-le, length-take-le}
+use lib.Ieee.{Float}
 use Rattle.stay.specs.StepsOrdered.{in_order}
 use Rattle.stay.specs.Ordered.{insert_ordered, ordered_from, ordered, median}
 use Rattle.stay.proofs.Ordered.{insert_length, insert_in_order}
@@ -24,42 +23,30 @@ inserted g h n v k e =
     let j = length-take-le n g (omega arith) in
     ap (take (n + 1)) e ∙ take_at (insert_ordered v (take n g)) (drop (n + 1) g) (n + 1) (omega arith)
 
--- The front of the group before place i, with what is still to come, gives all in order.
-pub record Gathered (l : ℕ) (ks : List ℤ) (vs g : List Float) (n i : ℕ) : Type 0 where
-  pub few : n ≤ i
+-- The front of the group, with the places that are left, gives all in order. Those have the labels js and the coordinates us.
+pub record Gathered (l : ℕ) (ks : List ℤ) (vs g : List Float) (n : ℕ) (js : List ℤ) (us : List Float) : Type 0 where
+  pub few : n + length js ≤ length ks
+  pub one_length : length js ≡ length us
   pub in_front : in_order (take n g) ≡ true
-  pub rest : ordered_from (take n g) (with_label l (drop i ks) (drop i vs)) ≡ ordered (with_label l ks vs)
+  pub rest : ordered_from (take n g) (with_label l js us) ≡ ordered (with_label l ks vs)
 
-pub gather_start : (l : ℕ) (ks : List ℤ) (vs g : List Float) → Gathered l ks vs g 0 0
-unfolding in_order ordered
-gather_start l ks vs g = record { few = omega arith; in_front = refl; rest = refl }
-
-module _ {l : ℕ} {ks : List ℤ} {vs g : List Float} {n i : ℕ} (inv : Gathered l ks vs g n i) (k : i < length ks) (long : length vs ≡ length ks) where
-  next : ordered_from (take n g) (with_label l (get_or ks i (pos 0) ∷ drop (suc i) ks) (get_or vs i nan ∷ drop (suc i) vs)) ≡ ordered (with_label l ks vs)
-  next =
-      ap₂ (λ (a : List ℤ) (c : List Float). ordered_from (take n g) (with_label l a c)) (sym (drop-cons ks i (pos 0) k)) (sym (drop-cons vs i nan (omega arith)))
-      ∙ inv.rest
-
-  -- A place with the label is inserted, and one with another is passed over.
-  pub gather_in : (h : List Float) → is_label l (get_or ks i (pos 0)) ≡ true → n < length g
-      → h ≡ insert_ordered (get_or vs i nan) (take n g) ++ drop (n + 1) g → Gathered l ks vs h (n + 1) (i + 1)
+-- What is left, place by place: a place with the label is inserted, and one with another is passed over.
+module _ (l : ℕ) (k : ℤ) (ks : List ℤ) (v : Float) (vs : List Float) where
+  pub gather_in : (g h : List Float) (n : ℕ) → h ≡ insert_ordered v (take n g) ++ drop (n + 1) g → n < length g → is_label l k ≡ true
+      → ordered_from (take n g) (with_label l (k ∷ ks) (v ∷ vs)) ≡ ordered_from (take (n + 1) h) (with_label l ks vs)
   unfolding with_label ordered_from
-  gather_in h b room e =
-      let a = inserted g h n (get_or vs i nan) room e in
-      record {
-        few = omega (arith, inv.few);
-        in_front = rw a (insert_in_order (get_or vs i nan) (take n g) inv.in_front);
-        rest = rw (a, add-one i) (rw b at next);
-      }
+  gather_in g h n e room b = rw (inserted g h n v room e, b) refl
 
-  pub gather_past : is_label l (get_or ks i (pos 0)) ≡ false → Gathered l ks vs g n (i + 1)
+  pub gather_past : is_label l k ≡ false → with_label l (k ∷ ks) (v ∷ vs) ≡ with_label l ks vs
   unfolding with_label
-  gather_past b = record { few = omega (arith, inv.few); in_front = inv.in_front; rest = rw (add-one i) (rw b at next) }
+  gather_past b = rw b refl
 
-pub gather_end : {l : ℕ} {ks : List ℤ} {vs g : List Float} {n i : ℕ} → Gathered l ks vs g n i → length ks ≤ i → take n g ≡ ordered (with_label l ks vs)
+pub front_ordered : (g h : List Float) (n : ℕ) (v : Float) → h ≡ insert_ordered v (take n g) ++ drop (n + 1) g → n < length g → in_order (take n g) ≡ true → in_order (take (n + 1) h) ≡ true
+front_ordered g h n v e room o = rw (inserted g h n v room e) (insert_in_order v (take n g) o)
+
+pub gather_end : {l : ℕ} {ks js : List ℤ} {vs us g : List Float} {n : ℕ} → Gathered l ks vs g n js us → js ≡ [] → take n g ≡ ordered (with_label l ks vs)
 unfolding with_label ordered_from
-gather_end {l} {ks} {vs} {g} {n} {i} inv k =
-    ap (λ (a : List ℤ). ordered_from (take n g) (with_label l a (drop i vs))) (sym (drop_of_length-le ks {i = i} k)) ∙ inv.rest
+gather_end {l} {ks} {js} {vs} {us} {g} {n} inv e = ap (λ (a : List ℤ). ordered_from (take n g) (with_label l a us)) (sym e) ∙ inv.rest
 
 -- The median of the first n items of the group, which stands in front of its array.
 pub gathered_median : (l : ℕ) (ks : List ℤ) (vs g a : List Float) (n : ℕ) {m : Float} → n ≤ length g → take n g ≡ ordered (with_label l ks vs)

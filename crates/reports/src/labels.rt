@@ -33,6 +33,7 @@ pub fn label_count(labels: &[i32]) -> usize
 }
 
 // f of each label below `count`, in order, to the front of `out`.
+#[tactic(auto, using(crate::proofs::Copies::each_here, crate::proofs::Copies::each_on, crate::proofs::Copies::each_end))]
 pub fn write_column<T: Copy, F: Fn(usize) -> T>(f: F, count: usize, out: &mut [T])
     requires callable { F.IsAlwaysCallable f }
     requires room { count ≤ length out.old }

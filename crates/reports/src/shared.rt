@@ -22,6 +22,7 @@ pub fn check_model(fitted: bool, lacking: bool) -> Result<(), Refusal>
 }
 
 // Where a trace starts among the fixes.
+// Kept as it is: lengths and the number of a trace are two, here, in `check_view` and in `trace_view`: that there is such a trace is what these find out.
 pub fn trace_start(lens: &[u32], trace: usize) -> usize
     requires { (trace ≤ length lens.now) × (total lens.now < 2 ^ 64) }
     ensures { result ≡ trace_start lens.now trace }

@@ -1,4 +1,5 @@
 // Visits: how many accepted stays of a trace have their median at a place of each label.
+// Kept as it is: the work slices are parameters of their own, for the reason that stands in infostop/src/steps.rt.
 ghost use Rattle.std.specs.Prelude.{◌≡◌, ◌≤◌, [], length, get_or};
 ghost use Rattle.lists.specs.Lists.{overlay};
 ghost use Rattle.distance.specs.Distance.{euclidean};

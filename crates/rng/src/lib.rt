@@ -45,6 +45,8 @@ fn shuffle(s: &mut [u16], rng: u64) -> u64
 }
 
 // Writes 0, 1, 2, .. in the slice's own numbers, of 16 bits or more.
+// Kept as it is: that a slice has at most 512 elements stands here, in `draw_nodes` and in `draw_order`: it is lent to be written, and is shorter than the
+// caller's array. A struct that knows its length would have to promise, in each, that it still holds the same slice.
 pub fn fill<T: Copy + From<u16>>(s: &mut [T])
     requires { length s.old ≤ 512 }
     ensures { Counts T.from_gives s.new }
@@ -65,6 +67,8 @@ fn draw_nodes(s: &mut [u16], rng: u64) -> u64
 }
 
 // Writes the numbers of `nodes` in 32 bits.
+// Kept as it is: `to` by the index of `nodes`. Tried with a `zip`, and the proof didn't close: of what a slice holds after a loop over its
+// `iter_mut` beside another iterator nothing is told.
 fn widen(to: &mut [u32], nodes: &[u16])
     requires { length to.old ≡ length nodes.now }
     ensures { to.new ≡ nodes.now }

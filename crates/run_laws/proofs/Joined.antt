@@ -18,7 +18,7 @@ use Rattle.optimize.specs.Rounds.{optimize_partition}
 use Rattle.infomap.specs.Infomap.{best_of_three, kept_grouping}
 use Rattle.run_laws.proofs.Ways.{Linked, BothWays, Way, end, go, Joined}
 use Rattle.run_laws.proofs.Quiet.{trial_keeps, best_keeps, kept_keeps}
-use Rattle.run_laws.proofs.Answers.{scan_move, isolate_move, next_free_above}
+use Rattle.run_laws.proofs.ScanAnswers.{scan_move, isolate_move, next_free_above}
 
 -- One way after another is a way.
 pub way_then : {net : Network} {u v w : ℕ} → Way net u v → Way net v w → Way net u w

@@ -1,7 +1,7 @@
 -- Theorems on the grouping run.
 pub mod Ways
 pub mod Quiet
-pub mod Answers
+pub mod ScanAnswers
 pub mod Joined
 pub mod KeptTrial
 pub mod LastRound

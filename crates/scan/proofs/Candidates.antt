@@ -6,7 +6,6 @@ use mathlib.Core.Logic.{inl, inr}
 use Rattle.std.specs.Prelude.{Option, Some, None}
 use Rattle.std.specs.List.{fold}
 use Prim.Native.Nat.{ℕ, max, zero, suc, ◌+◌, ◌^◌, ◌<◌, ◌≤◌}
-use native.Mathlib.Decide.{dec_lt}
 use native.Mathlib.Omega.{arith}
 use native.Mathlib.Numerals.{add-one}
 use borrow.Author.Tests.{ltb-true, ltb-false, lt-ltb, le-ltb, eqb-true, eqb-false}
@@ -136,33 +135,6 @@ candidates_have (p ∷ ps) (w ∷ ws) (suc v) h t = go (candidates_have ps ws v 
 abbrev pub Bounds : ℕ → Option Candidate → Type 0
 Bounds b (Some c) = b ≡ c.group
 Bounds b None = 2 ^ 32 ≤ b
-
-module _ (part : List ℕ) (ws : List Float) (floor k b : ℕ) where
-  -- node k is a neighbour in a lower group
-  pub next_lower : (o : Option Candidate) → Next part ws floor k o → Bounds b o → k < length part → lt zero64 (get_or ws k nan) ≡ true → floor ≤ get_or part k 0 → get_or part k 0 < b
-      → Lowest part ws floor (k + 1) (record { group = get_or part k 0; member = k })
-  next_lower o n m h t f l = record { inside = h; near = t; number = refl; up = f; least = λ v i u g. go o n m v (dec_lt v k) i u g } where
-    go : (o : Option Candidate) → Next part ws floor k o → Bounds b o → (v : ℕ) → Dec (v < k) → v < k + 1 → lt zero64 (get_or ws v nan) ≡ true → floor ≤ get_or part v 0 → get_or part k 0 ≤ get_or part v 0
-    go (Some c) n m v (yes i) _ u g = let e = n.least v i u g in omega arith
-    go None n m v (yes i) _ u g = let e = n v i u in absurd (omega arith)
-    go o n m v (no i) j u g = let e : v ≡ k = omega arith in rw e (omega arith)
-
-  -- or it is not
-  pub next_same : (o : Option Candidate) → Next part ws floor k o → Bounds b o → get_or part k 0 < 2 ^ 32 → (lt zero64 (get_or ws k nan) ≡ true → floor ≤ get_or part k 0 → get_or part k 0 < b → ⊥) → Next part ws floor (k + 1) o
-  next_same (Some c) n m s f = record { inside = n.inside; near = n.near; number = n.number; up = n.up; least = λ v i u g. go v (dec_lt v k) i u g } where
-    go : (v : ℕ) → Dec (v < k) → v < k + 1 → lt zero64 (get_or ws v nan) ≡ true → floor ≤ get_or part v 0 → c.group ≤ get_or part v 0
-    go v (yes i) _ u g = n.least v i u g
-    go v (no i) j u g = let e : v ≡ k = omega arith in at v e u g (dec_lt (get_or part k 0) b) where
-      at : (v : ℕ) → v ≡ k → lt zero64 (get_or ws v nan) ≡ true → floor ≤ get_or part v 0 → Dec (get_or part k 0 < b) → c.group ≤ get_or part v 0
-      at v e u g (yes l) = absurd (f (rw e at u) (rw e at g) l)
-      at v e u g (no l) = rw e (omega arith)
-  next_same None n m s f = λ v i u. go v (dec_lt v k) i u where
-    go : (v : ℕ) → Dec (v < k) → v < k + 1 → lt zero64 (get_or ws v nan) ≡ true → get_or part v 0 < floor
-    go v (yes j) _ u = n v j u
-    go v (no j) i u = let e : v ≡ k = omega arith in at v e u (dec_lt (get_or part k 0) floor) where
-      at : (v : ℕ) → v ≡ k → lt zero64 (get_or ws v nan) ≡ true → Dec (get_or part k 0 < floor) → get_or part v 0 < floor
-      at v e u (yes l) = rw e l
-      at v e u (no l) = absurd (f (rw e at u) (omega arith) (omega arith))
 
 -- ---- the scan, candidate by candidate
 

@@ -1,7 +1,7 @@
 // The scan of a node: the best group among its neighbours', and the isolation test.
 #![tactic(auto)]
 
-ghost use Rattle.std.specs.Prelude.{◌≡◌, ◌+◌, ◌-◌, ◌*◌, ◌<◌, ◌≤◌, length, get_or};
+ghost use Rattle.std.specs.Prelude.{◌≡◌, ◌+◌, ◌-◌, ◌<◌, length, get_or};
 ghost use Rattle.map_state.specs.Steps.{AtNode};
 ghost use Rattle.scan.specs.Scan.{best_delta, better, consider, scan, highest_from, next_free_module, isolate};
 ghost use Rattle.scan.specs.Steps.{answer_of, Next, AtPair, Testable};
@@ -47,7 +47,8 @@ fn better(a: Scan, h: u32, d: f64) -> Scan
 
 // A neighbour in the lowest group at or above `floor`.
 // Kept as it is: the minimum is kept by hand. A chain of `enumerate`, `filter` and `min_by_key` takes more than twice the instructions: 7.8 million
-// for 200 scans of 64 nodes, where this loop takes 3.7. The bar: the grouping must not be slower than before these forms.
+// for 200 scans of 64 nodes, where this loop takes 3.7. The bar is that of `link_weights` of map_state: this loop runs there at least as often as the change
+// of codelength is worked out, by its instructions some 53,000 times, and 320 instructions more each time would make it 130 million.
 fn next_candidate(row: Row, floor: usize) -> Option<Candidate>
     ensures { Next row.entry.partition.now row.entry.weights.now floor (length row.entry.partition.now) result }
 {

@@ -3,10 +3,8 @@ use mathlib.Core.Path.{◌≡◌, refl, sym, ap, ◌∙◌}
 use mathlib.Core.Bool.{Bool, true, false, false≢true}
 use mathlib.Core.List.{List, [], ◌∷◌}
 use Prim.Native.Nat.{ℕ, zero, suc, ◌+◌, ◌<◌}
-use native.Mathlib.Numerals.{add-one}
 use native.Mathlib.Omega.{arith}
-use lib.ListN.{length, drop, get_or}
-use lib.Seq.{drop-cons}
+use lib.ListN.{length, get_or}
 use Rattle.std.specs.Prelude.{Ok, Err}
 use Rattle.std.specs.Result.{result_and}
 use Rattle.settings.specs.declared.refusal.Refusal.{Refusal}
@@ -101,8 +99,3 @@ pub each_from_at : {A : Type 0} (f : ℕ → A → Checked) (l : List A) (d : A)
 each_from_at f l d h i n = let e : 0 + i ≡ i = omega arith in rw e at (each_from_lem f 0 l d h i n)
 
 -- ---- a loop over the items from i on
-
--- The check of the items from i on: that of item i, and where it accepts, of those behind it.
-pub each_step : {A : Type 0} (f : A → Checked) (l : List A) (d : A) (i : ℕ) → i < length l → each_of f (drop i l) ≡ first_of (f (get_or l i d)) (each_of f (drop (i + 1) l))
-unfolding each_of
-each_step f l d i h = rw (add-one i, drop-cons l i d h)

@@ -66,7 +66,7 @@ pub fn number(e: Refusal) -> u32
 }
 
 // The trace that it is about, 0 where it is about none.
-// Kept as it is: no derive hands out what the cases of an enum carry.
+// Kept as it is: no derive hands out what the cases of an enum carry; and 0 and no Option, as the definition `trace_of` has it and lists print it.
 pub fn trace(e: Refusal) -> usize
     ensures { result ≡ trace_of e }
 {

@@ -5,7 +5,7 @@ use Prim.Native.Nat.{ℕ, zero, suc, ◌+◌, ◌*◌, ◌/◌, ◌≤◌}
 use native.Mathlib.Omega.{arith}
 use Rattle.std.proofs.Common.{zero-add}
 use lib.IntN.{ℤ}
-use lib.ListN.{length, take, drop, length-append, length-take, length-drop, length-map}
+use lib.ListN.{length, take, drop, length-append, length-drop, length-map}
 use lib.Seq.{take_at, take_all, take-take, length-take-le, sets}
 use lib.Ieee.{Float}
 use Rattle.distance.specs.declared.Point.{Point}
@@ -22,7 +22,7 @@ use Rattle.stay.specs.StepsFound.{quarter, Found}
 use Rattle.stay.proofs.Groups.{medians_few}
 use Rattle.stay.proofs.MediansRead.{medians_before}
 use Rattle.stay.proofs.Lies.{event_map_length}
-use Rattle.lists.proofs.Parts.{part_length, take_sets, lent, back, lent_length, back_length}
+use Rattle.lists.proofs.Parts.{part_length, take_sets}
 use Rattle.stay.specs.StepsAll.{all_events, medians_in, AllFound}
 
 -- ---- points
@@ -40,15 +40,6 @@ points_append [] [] (m ∷ ms) h = ap (λ (r : List Point). m ∷ r) (points_app
 points_append [] (y ∷ ys) ms h = absurd (omega arith)
 points_append (x ∷ xs) [] ms h = absurd (omega arith)
 points_append (x ∷ xs) (y ∷ ys) ms h = ap {B = List Point} (λ r. record { x = x; y = y } ∷ r) (points_append xs ys ms (omega arith))
-
--- ---- parts of slices as the code lends them
-
-pub lent_few : {A : Type 0} (a n : ℕ) (l : List A) → length (lent a (a + n) l) ≤ n
-lent_few a n l = simp (length-take, length-drop) (omega arith)
-
--- A slice after a part of it has come back.
-pub length_back : {A : Type 0} (a n : ℕ) (p l : List A) → length p ≡ length (lent a (a + n) l) → a + n ≤ length l → length (back a (a + n) p l) ≡ length l
-length_back a n p l h q = back_length a (a + n) p l (omega arith) q (h ∙ lent_length a (a + n) l (omega arith) q)
 
 -- ---- traces one after the other
 

@@ -113,3 +113,13 @@ module _ (dist : Point → Point → Float) (s : Config) (t : Bool) (ts : List F
       → m ≡ middle_in q (i - o.start) w → d ≡ dist p m → e ≡ elapsed t ts (i - 1) i → r ≡ join_test t s d e → r ≡ b
       → join_test t s (dist p (mid_of (state_of q i w l o))) (elapsed t ts (i - 1) i) ≡ b
   test_is q w l o pm pd pe pr pb = rw (← mid_is q i w l o, ← pm, ← pd, ← pe) (sym pr ∙ pb)
+
+  -- a fix that does not join: the group closed before it, and the point taken into the next
+  pub step_closed : (q : ℕ) (w w₁ w₂ : List Float) (l l₁ : List ℤ) (o o₁ : Open) (m : Point) (d e : Float) {r : Bool} → w₂ ≡ insert_both q 0 p.x p.y w₁ → state_of q i w₁ l₁ o₁ ≡ closed s t ts i (state_of q i w l o)
+      → m ≡ middle_in q (i - o.start) w → d ≡ dist p m → e ≡ elapsed t ts (i - 1) i → r ≡ join_test t s d e → r ≡ false → 0 < q → 4 * q ≤ length w₁
+      → state_of q (i + 1) w₂ l₁ o₁ ≡ step dist s t ts p i (state_of q i w l o)
+  unfolding closed closed_as state_of
+  step_closed q w w₁ w₂ l l₁ o o₁ m d e h c pm pd pe pr pf few room =
+      let at : o₁.start ≡ i = ap (λ (z : State). z.start) c in
+      rw h
+      (grown_state q i 0 w₁ l₁ o₁ p (omega arith) (omega arith) few room ∙ ap (with_point p) c ∙ sym (step_closes (state_of q i w l o) (test_is q w l o pm pd pe pr pf)))

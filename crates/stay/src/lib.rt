@@ -49,6 +49,7 @@ fn shift_in(s: &mut [f64], at: usize, elem: f64)
 }
 
 // elem into the first len elements, which are in order, behind its equals.
+// Kept as it is: slices with the length of their front beside them, here, in `insert_both` and in `middle`. There is no heap for a list that grows.
 #[tactic(auto, using(crate::proofs::Shift::inserted, crate::proofs::Shift::place_in))]
 pub fn insert_ordered(arr: &mut [f64], len: usize, elem: f64)
     requires len_in_bounds { len < length arr.old }
@@ -172,7 +173,7 @@ fn close(rule: Rule, work: &mut [f64], events: &mut [i32], q: usize, i: usize, o
 }
 
 // One fix: it joins the open group, or closes it and opens the next.
-#[tactic(auto, using(crate::proofs::States::grown_state, crate::proofs::States::step_joins, crate::proofs::States::step_closes, crate::proofs::States::test_is), unfolding(crate::specs::StepsOrdered::in_order))]
+#[tactic(auto, using(crate::proofs::States::grown_state, crate::proofs::States::step_joins, crate::proofs::States::test_is), unfolding(crate::specs::StepsOrdered::in_order))]
 fn next(
     p: Point,
     rule: Rule,
@@ -200,6 +201,8 @@ fn next(
 
 // The stays of one trace: `found` is how many the traces before it have. It hands back how many there are, writes for each fix the number of
 // the accepted stay it lies in, or -1, and the stays' medians behind those of the traces before it.
+// Kept as it is: the fixes by their index, since the first opens a group before the loop, and `next` takes the number of each fix: an iterator would have to
+// skip the first and count the others from 1.
 #[tactic(auto, using(distance::proofs::Columns::length_points), unfolding(crate::specs::StepsOrdered::in_order))]
 pub fn stays(t: Trace, s: Config, work: &mut [f64], found: usize, events: &mut [i32]) -> usize
     requires { Lengths (length t.xs.now) (length events.old) (length work.old) found }

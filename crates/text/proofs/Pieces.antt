@@ -16,9 +16,8 @@ use Rattle.text.specs.Values.{FixLine, config_of, fix_of, Read, outside, inside,
 use Rattle.text.proofs.TracesRise.{TracesRise}
 use Rattle.text.specs.Parsed.{Parsed, too_many, unless_many, at_most768, parsed, with_columns, filled, Parses}
 use Rattle.text.specs.Machine.{Machine, machine, unread, field_at, run, initial, ended, start_reader, holding, Fed, config_in}
-use Rattle.text.specs.Pieces.{first_fixes, finished_if, finished, ReadAs, Starts, Feeds, Finishes}
+use Rattle.text.specs.Pieces.{first_fixes, finished_if, finished, ReadAs, Finishes}
 use Rattle.text.proofs.Rows.{kept}
-use Rattle.text.proofs.Run.{run_parts}
 use Rattle.text.proofs.Noted.{count_from, Contents, float_noted}
 use Rattle.text.proofs.Reading.{Says, text_read}
 use Rattle.text.proofs.Columns.{noted_into, count_few, count_many}
@@ -27,18 +26,6 @@ use Rattle.text.proofs.Lengths.{traces_counted, lens_noted}
 -- What is outside the form is not inside it.
 not_inside : {A : Type 0} (s : Config) (ls : List FixLine) → ◌≡◌ {A = Read} outside (inside s ls) → A
 not_inside s ls q = absurd (let z : ◌≡◌ {A = ℕ} 0 1 = cc in omega arith)
-
--- ---- pieces
-
--- `start`: nothing was read.
-pub fed_start : {r : Reader} → r ≡ start_reader → Starts r
-unfolding run
-fed_start p = record { equation = p; start = λ c. record { fed = ap (λ (r : Reader). holding r c) p } }
-
--- `feed`: the next piece was read too.
-pub fed_more : {u : List ℕ} {r q : Reader} {c c' : Columns} → holding q c' ≡ run (holding r c) u → Feeds u r c q c'
-fed_more {u} {r} {q} {c} {c'} e =
-    record { equation = e; more = λ {first} {t} f. record { fed = e ∙ ap (λ (m : Machine). run m u) f.fed ∙ sym (run_parts (holding start_reader first) t u) } }
 
 -- ---- the settings
 

@@ -1,5 +1,5 @@
 -- The machine over a text: how a loop goes on and ends, a text in two parts, and what makes one step.
-use Rattle.std.proofs.Common.{◌≡◌, ℕ, ◌+◌, ◌<◌, ◌≤◌, Bool, true, false, leb, List, [], ◌∷◌, ◌++◌, length, get_or, set, drop, refl, ap, ◌∙◌, add-one, drop_of_length-le, drop-cons, leb-true}
+use Rattle.std.proofs.Common.{◌≡◌, ℕ, ◌+◌, ◌<◌, ◌≤◌, Bool, true, false, leb, List, [], ◌∷◌, ◌++◌, length, get_or, set, drop, refl, add-one, drop_of_length-le, drop-cons, leb-true}
 use lib.Ieee.{Float}
 use Rattle.text.specs.declared.state.State.{State}
 use Rattle.text.specs.declared.state.Stage.{Stage}
@@ -27,14 +27,13 @@ set_unstored s r e = go s.stage refl
     go Outside p = rw p
 
 -- A loop over the bytes.
-pub run_on : (m m₁ : Machine) (text : List ℕ) (i : ℕ) {v : Machine} → i < length text → m₁ ≡ step m (get_or text i 0) → run m (drop i text) ≡ v
-    → run m₁ (drop (i + 1) text) ≡ v
+pub run_next : (m : Machine) (text : List ℕ) (i : ℕ) → i < length text → run m (drop i text) ≡ run (step m (get_or text i 0)) (drop (i + 1) text)
 unfolding run
-run_on m m₁ text i h e p = ap (λ (n : Machine). run n (drop (i + 1) text)) e ∙ (rw (drop-cons text i 0 h, ← add-one i) at p)
+run_next m text i h = rw (drop-cons text i 0 h, add-one i)
 
-pub run_end : (m : Machine) (text : List ℕ) (i : ℕ) {v : Machine} → length text ≤ i → run m (drop i text) ≡ v → m ≡ v
+pub run_done : (m : Machine) (text : List ℕ) (i : ℕ) → length text ≤ i → run m (drop i text) ≡ m
 unfolding run
-run_end m text i h p = rw (drop_of_length-le text {i = i} h) at p
+run_done m text i h = rw (drop_of_length-le text {i = i} h)
 
 -- A text in two parts.
 pub run_parts : (m : Machine) (a b : List ℕ) → run m (a ++ b) ≡ run (run m a) b

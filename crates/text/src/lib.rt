@@ -70,6 +70,7 @@ impl Reader {
 }
 
 // Before the first piece.
+#[tactic(auto, unfolding(crate::specs::Machine::start_reader, crate::specs::Machine::run))]
 pub fn start() -> Reader
     ensures { Starts result }
 {
@@ -87,6 +88,7 @@ pub fn start() -> Reader
 // would have to say of all five that they are still the caller's (`c.new.xs.ghost_name ≡ c.old.xs.ghost_name` and so on; tried: without that they are
 // unknown to the caller afterwards). Of a struct that is handed over by value the contract names the slices by place (`c.exit.1.1.1.0.now`: the marks).
 // A struct that owns arrays, as the one of `reply` does, would ask more of callers: slices of any length are taken here.
+#[tactic(auto, using(crate::proofs::Run::run_next, crate::proofs::Run::run_done, crate::proofs::Run::run_parts))]
 pub fn feed(
     mut r: Reader,
     text: &[u8],

@@ -1,4 +1,5 @@
 pub mod Fixes
 pub mod Parts
 pub mod Placed
+pub mod Coming
 pub mod WithoutEmpty

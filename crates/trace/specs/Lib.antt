@@ -3,4 +3,5 @@ pub mod WithoutEmpty
 pub mod Given
 pub mod Steps
 pub mod StepsTraces
+pub mod StepsFixes
 pub mod Examples

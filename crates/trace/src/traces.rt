@@ -1,5 +1,5 @@
 // The traces of tracks, one after the other.
-ghost use Rattle.std.specs.Prelude.{◌≡◌, ◌+◌, ◌≤◌, length};
+ghost use Rattle.std.specs.Prelude.{◌+◌, ◌≤◌, length};
 ghost use Rattle.trace.specs.Trace.{total};
 
 use crate::Trace;

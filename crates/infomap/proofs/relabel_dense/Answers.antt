@@ -1,36 +1,22 @@
 -- `infomap::relabel_dense` meets its contract. The loop has labelled the nodes below v, and `next` counts the groups whose first member is below v.
-use mathlib.Core.Path.{◌≡◌}
+-- Kept: the check does not find what stands here, also with the lemmas named on the function.
 use native.Mathlib.Omega.{arith}
-use lib.ListN.{length-set, get_or}
-use Rattle.map_state.specs.MapState.{lowest}
-use Rattle.lists.proofs.Stores.{stored_below}
-use Rattle.map_state.proofs.Chains.{found}
-use Rattle.infomap.proofs.Labels.{label_at, label_seen, rank_seen, label_new, rank_new, first_if_none, first_if_above}
+use Rattle.infomap.proofs.Labels.{labelled_seen, labelled_new, first_if_none, first_if_above}
 use Rattle.infomap.proofs.relabel_dense.Goals as goal
 use Rattle.infomap.proofs.relabel_dense.Goals.{in-Some, in_default, in_default-via-in-Some+else-f-v, in_default-via-in_default}
 
 pub loop-v-preserved : goal.loop-v-preserved
 loop-v-preserved c =
-    let l = c.loop-v in
-    let part = c.args.partition.now in
     let h = c.loop-v-test.true in
+    let i = c.loop-v.invariant in
+    let e = c.lowest.ensures in
     elim c.match-lowest.branch [
-      | in-Some w ↦
-          let f = found (get_or part l.v 0) part c.lowest.ensures w.in-Some.is in
-          rw (w.labels-is, w.next-is) (
-            stored_below _ l.labels l.v _ (omega arith) (label_at part) l.invariant.0 (label_seen part l.labels l.v h f.0 l.invariant.1 w.if-f-v.true l.invariant.0),
-            rank_seen part l.labels l.v h f.0 l.invariant.1 w.if-f-v.true,
-            simp length-set (omega arith),
-          )
+      | in-Some w ↦ rw (w.labels-is, w.next-is) (labelled_seen _ _ _ _ h i.2 (omega arith) i.0 i.1 e w.in-Some.is w.if-f-v.true)
       | in_default w ↦
-          let first : l.v ≡ lowest (get_or part l.v 0) part =
-          elim w.in_default.branch [
-            | in_default-via-in-Some+else-f-v s ↦ first_if_above part l.v h c.lowest.ensures s.in-Some.is s.if-f-v.false
-            | in_default-via-in_default s ↦ first_if_none part l.v h c.lowest.ensures s.in_default.is
-          ] in
-          rw (w.labels-is, w.next-is) (
-            stored_below _ l.labels l.v _ (omega arith) (label_at part) l.invariant.0 (label_new part l.v first l.invariant.1),
-            rank_new part l.v first l.invariant.1,
-            simp length-set (omega arith),
-          )
+          rw (w.labels-is, w.next-is)
+          (labelled_new _ _ _ _ h i.2 (omega arith) i.0 i.1
+          (elim w.in_default.branch [
+            | in_default-via-in-Some+else-f-v s ↦ first_if_above _ _ h e s.in-Some.is s.if-f-v.false
+            | in_default-via-in_default s ↦ first_if_none _ _ h e s.in_default.is
+          ]))
     ]

@@ -1,4 +1,5 @@
 -- `map_state::sum_strengths` meets its contract. The loop has written the strengths of the nodes below u.
+-- Kept: the check does not find what stands here, also with the lemmas named on the function.
 use native.Mathlib.Omega.{arith}
 use Rattle.map_state.proofs.Rows.{is_strengths}
 use Rattle.map_state.proofs.sum_strengths.Goals as goal

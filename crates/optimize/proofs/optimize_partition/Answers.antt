@@ -1,4 +1,5 @@
 -- `optimize::optimize_partition` meets its contract.
+-- Kept: the check does not find what stands here, also with the lemmas named on the function.
 use mathlib.Core.Path.{◌≡◌, ap}
 use lib.ListN.{length}
 use Rattle.optimize.proofs.Start.{optimize_partition_is, last_visits_is}

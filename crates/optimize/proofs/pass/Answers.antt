@@ -1,4 +1,5 @@
 -- `optimize::pass` meets its contract. The loop: the pass over the nodes that are left, from the state so far, is the whole pass. Numbers grow by one a node at most.
+-- Kept: the check does not find what stands here, also with the lemmas named on the function.
 use mathlib.Core.Path.{refl, ◌∙◌, ap}
 use lib.ListN.{length}
 use Rattle.optimize.specs.Rounds.{Pass}

@@ -1,4 +1,5 @@
 -- `program::answer_input` meets its contract.
+-- Kept: the check does not find what stands here, also with the lemmas named on the function.
 use mathlib.Core.Path.{sym}
 use Rattle.input.specs.Calls.{heard}
 use Rattle.program.proofs.Heard.{text_of, heard_text, heard_answered}

@@ -1,4 +1,5 @@
 -- `records::fit_records` meets its contract.
+-- Kept: the check does not find what stands here, also with the lemmas named on the function.
 use borrow.Author.Rules.{rules}
 use Rattle.records.proofs.Fits.{end_refused, end_taken}
 use Rattle.records.proofs.fit_records.Goals as goal

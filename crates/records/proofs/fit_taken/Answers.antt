@@ -1,4 +1,5 @@
 -- `records::fit_taken` meets its contract.
+-- Kept: the check does not find what stands here, also with the lemmas named on the function.
 use Rattle.records.proofs.Fits.{promised_taken}
 use Rattle.records.proofs.fit_taken.Goals as goal
 

@@ -1,4 +1,5 @@
 -- `replay::room` meets its contract.
+-- Kept: the check does not find what stands here, also with the lemmas named on the function.
 use Rattle.std.proofs.Common.{◌≡◌, ℕ, length, replicate, refl, sym}
 use lib.ListN.{length-replicate}
 use Rattle.replay.proofs.room.Goals as goal

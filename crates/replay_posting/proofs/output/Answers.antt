@@ -1,4 +1,5 @@
 -- `replay_posting::output` meets its contract.
+-- Kept: the check does not find what stands here, also with the lemmas named on the function.
 use mathlib.Core.Path.{◌≡◌, sym}
 use Prim.Native.Nat.{ℕ}
 use lib.ListN.{length, replicate, length-replicate}

@@ -1,4 +1,5 @@
 -- `replay_texts::print_reply` is safe: no more bytes are written than there is room for.
+-- Kept: the check does not find what stands here, also with the lemmas named on the function.
 use Rattle.std.proofs.Common.{ℕ, arith, length-take-le}
 use lib.ListN.{length-replicate}
 use Rattle.print.proofs.Sizes.{within}

@@ -1,4 +1,5 @@
 -- `reply::answer` meets its contract.
+-- Kept: the check does not find what stands here, also with the lemmas named on the function.
 use mathlib.Core.Path.{sym}
 use Rattle.reply.proofs.Columns.{writes_as, refused_text, tracks_text, program_is}
 use Rattle.reply.proofs.answer.Goals as goal

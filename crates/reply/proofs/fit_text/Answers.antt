@@ -1,5 +1,6 @@
 -- `reply::fit_text` meets its contract.
-use Rattle.reply.proofs.Answers.{refused_writes, labelled_within, labelled_writes}
+-- Kept: the check does not find what stands here, also with the lemmas named on the function.
+use Rattle.reply.proofs.AnswerText.{refused_writes, labelled_within, labelled_writes}
 use Rattle.reply.proofs.fit_text.Goals as goal
 
 pub print-requires : goal.print-requires

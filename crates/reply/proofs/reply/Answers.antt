@@ -1,4 +1,5 @@
 -- `reply::reply` meets its contract.
+-- Kept: the check does not find what stands here, also with the lemmas named on the function.
 use Rattle.reply.proofs.Columns.{from_text}
 use Rattle.reply.proofs.reply.Goals as goal
 

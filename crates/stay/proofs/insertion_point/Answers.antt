@@ -1,4 +1,5 @@
 -- `stay::insertion_point` meets its contract.
+-- Kept: the check does not find what stands here, also with the lemmas named on the function.
 use Rattle.std.proofs.Common.{rules}
 use Rattle.std.proofs.lemmas.List.Sorted.{IsPartitionPoint-from_clause}
 use Rattle.stay.specs.Ordered.{at_most}

@@ -1,4 +1,5 @@
 -- `text::finish` meets its contract.
+-- Kept: the check does not find what stands here, also with the lemmas named on the function.
 use Rattle.std.proofs.Common.{sym, ◌∙◌}
 use Rattle.text.specs.Pieces.{finished_if, finished}
 use Rattle.text.proofs.Pieces.{fed_end}

@@ -1,4 +1,5 @@
 -- `text::parse` meets its contract.
+-- Kept: the check does not find what stands here, also with the lemmas named on the function.
 use Rattle.std.proofs.Common.{sym, ◌∙◌}
 use Rattle.text.proofs.Pieces.{parses_whole}
 use Rattle.text.proofs.parse.Goals as goal

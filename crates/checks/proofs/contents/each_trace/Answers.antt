@@ -1,4 +1,5 @@
 -- `checks::contents::each_trace` meets its contract.
+-- Kept: the check does not find what stands here, also with the lemmas named on the function.
 use Rattle.std.proofs.Common.{◌≡◌, length, ◌∙◌, inl, arith}
 use Rattle.std.proofs.lemmas.Result.{err_from_is_err_and}
 use Rattle.std.specs.Iterator.Adapters.{enumerate_source, enumerate_count}

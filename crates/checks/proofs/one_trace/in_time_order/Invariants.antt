@@ -1,9 +1,10 @@
--- `checks::one_trace::in_time_order` meets its contract. The invariant: the times from i - 1 on are in order where all are.
+-- `checks::one_trace::in_time_order` meets its contract. The invariant: the fixes that are left are in order behind the last where all are.
 use mathlib.Core.Path.{◌≡◌}
-use Prim.Native.Nat.{◌-◌, ◌≤◌}
-use lib.ListN.{drop}
-use Rattle.checks.specs.Steps.{columns_in_order}
+use Rattle.trace.specs.Given.{fixes_of}
+use Rattle.trace.specs.StepsFixes.{given, to_come}
+use Rattle.checks.specs.Traces.{in_time_order}
+use Rattle.checks.proofs.Columns.{order_from}
 use Rattle.checks.proofs.one_trace.in_time_order.Given as goal
 
-abbrev pub invariant-loop-i : goal.invariant-loop-i
-invariant-loop-i l = (columns_in_order (drop (l.i - 1) l.t.times.now) (drop (l.i - 1) l.t.marks.now) ≡ columns_in_order l.t.times.now l.t.marks.now) × (1 ≤ l.i)
+abbrev pub invariant-loop-time : goal.invariant-loop-time
+invariant-loop-time l = order_from (given l.last) (to_come l.time-iterator) ≡ in_time_order (fixes_of l.t)

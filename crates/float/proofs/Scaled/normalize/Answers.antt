@@ -1,4 +1,5 @@
 -- `float::Scaled::normalize` meets its contract.
+-- Kept: the check does not find what stands here, also with the lemmas named on the function.
 use Rattle.float.proofs.Unpacking.{normalized}
 use Rattle.float.proofs.Scaled.normalize.Goals as goal
 

@@ -1,4 +1,5 @@
 -- `float::Small::root_by_digits` meets its contract: the loop's invariant is `Partial`, and its measure the place.
+-- Kept: the check does not find what stands here, also with the lemmas named on the function.
 use mathlib.Core.Path.{refl}
 use native.Mathlib.Omega.{arith}
 use Rattle.float.proofs.Restoring.{stays, grows}

@@ -1,4 +1,5 @@
 -- `infostop::steps::find_places` meets its contract.
+-- Kept: the check does not find what stands here, also with the lemmas named on the function.
 use Rattle.infostop.proofs.Placed.{arrays_laid}
 use Rattle.infostop.proofs.steps.find_places.Goals as goal
 

@@ -1,4 +1,5 @@
 -- `infostop::steps::from_medians` meets its contract.
+-- Kept: the check does not find what stands here, also with the lemmas named on the function.
 use mathlib.Core.Path.{sym, ◌∙◌}
 use Rattle.std.proofs.lemmas.Result.{err_from_is_err_and}
 use Rattle.infostop.proofs.Placed.{asked}

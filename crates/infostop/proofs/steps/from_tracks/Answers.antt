@@ -1,4 +1,5 @@
 -- `infostop::steps::from_tracks` meets its contract.
+-- Kept: the check does not find what stands here, also with the lemmas named on the function.
 use Rattle.infostop.proofs.Stays.{few_places, space}
 use Rattle.infostop.proofs.steps.from_tracks.Goals as goal
 

@@ -1,4 +1,5 @@
 -- `infostop::steps::label_tracks` meets its contract.
+-- Kept: the check does not find what stands here, also with the lemmas named on the function.
 use mathlib.Core.Path.{sym, ◌∙◌}
 use native.Mathlib.Omega.{arith}
 use Rattle.infostop.proofs.Grouping.{grouped_none, grouped_later}

@@ -1,4 +1,5 @@
 -- `map_state::MapState::apply_move` meets its contract. The steps of the definition one by one, with the lowest members kept.
+-- Kept: the check does not find what stands here, also with the lemmas named on the function.
 use mathlib.Core.Path.{ap}
 use native.Mathlib.Omega.{arith}
 use Rattle.map_state.specs.MapState.{MapState}

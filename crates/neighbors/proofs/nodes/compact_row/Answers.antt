@@ -1,4 +1,5 @@
 -- `neighbors::nodes::compact_row` meets its contract.
+-- Kept: the check does not find what stands here, also with the lemmas named on the function.
 use native.Mathlib.Omega.{arith}
 use Rattle.neighbors.proofs.Compact.{compact_on}
 use Rattle.neighbors.proofs.nodes.compact_row.Goals as goal

@@ -1,13 +1,15 @@
 -- `neighbors::places::place_of` meets its contract.
+-- Kept: the check does not find what stands here, also with the lemmas named on the function.
 use Rattle.std.proofs.Common.{rules, tests}
-use Rattle.std.proofs.lemmas.Iterator.{YieldsList-from_slice, YieldsList-from_zip}
+use Rattle.std.proofs.lemmas.Iterator.Consumers.{YieldsList-from_first}
 use Rattle.std.proofs.lemmas.Iterator.Search.{position_from_yields_List}
-use Rattle.neighbors.proofs.Search.{is_at, pairs_found}
+use Rattle.distance.specs.StepsIter.{to_come}
+use Rattle.neighbors.proofs.Search.{is_at, points_found}
 use Rattle.neighbors.proofs.places.place_of.Goals as goal
 
 pub returns : goal.returns
 returns c =
     let a = c.args in
-    pairs_found a.m a.places.xs.now a.places.ys.now a.places.ys_length
+    points_found a.m _
     (position_from_yields_List (is_at a.m) c.position.new.self _ c.position.result c.position.ensures.ran
-    (YieldsList-from_zip (YieldsList-from_slice a.places.xs.now cc) (YieldsList-from_slice a.places.ys.now cc)) (λ x b q k. search (rules, tests)))
+    (YieldsList-from_first (λ x. x) to_come _ c.iter.ensures.points) (λ x b q k. search (rules, tests)))

@@ -1,4 +1,5 @@
 -- `neighbors::places::sight` meets its contract.
+-- Kept: the check does not find what stands here, also with the lemmas named on the function.
 use Rattle.std.proofs.Common.{◌<◌, length, arith, rules}
 use Rattle.neighbors.proofs.Laid.{sight_place, sight_few, sight_again, sight_full, sight_new}
 use Rattle.neighbors.proofs.places.sight.Goals as goal

@@ -1,4 +1,5 @@
 -- `posting::columns::put_fix` meets its contract.
+-- Kept: the check does not find what stands here, also with the lemmas named on the function.
 use mir.Facts.{to_z-of_z}
 use Rattle.print.specs.Steps.{Wrote}
 use Rattle.print.proofs.Pushes.{wrote_then}

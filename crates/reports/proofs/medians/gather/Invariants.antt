@@ -2,5 +2,5 @@
 use Rattle.reports.proofs.Gathered.{Gathered}
 use Rattle.reports.proofs.medians.gather.Given as goal
 
-abbrev pub invariant-loop-i : goal.invariant-loop-i
-invariant-loop-i l = Gathered l.l l.labels l.vs l.group l.n l.i
+abbrev pub invariant-loop-k : goal.invariant-loop-k
+invariant-loop-k l = Gathered l.l l.labels l.vs l.group l.n l.k-iterator.a.rest.now l.k-iterator.b.rest.now

@@ -1,4 +1,5 @@
 -- `reports::shared::trace_start` meets its contract.
+-- Kept: the check does not find what stands here, also with the lemmas named on the function.
 use Rattle.reports.proofs.Starts.{start_summed, start_fits}
 use Rattle.reports.proofs.shared.trace_start.Goals as goal
 use borrow.Author.Rules.{rules}

@@ -1,4 +1,5 @@
 -- `reports::view::trace_view` meets its contract.
+-- Kept: the check does not find what stands here, also with the lemmas named on the function.
 use mathlib.Core.Path.{refl}
 use borrow.Author.Rules.{rules}
 use Rattle.reports.proofs.ViewParts.{view_given}

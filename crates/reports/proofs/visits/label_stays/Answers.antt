@@ -1,4 +1,5 @@
 -- `reports::visits::label_stays` meets its contract.
+-- Kept: the check does not find what stands here, also with the lemmas named on the function.
 use mathlib.Core.Path.{◌≡◌, refl, ◌∙◌, subst}
 use mathlib.Core.List.{List, ◌++◌}
 use borrow.Author.Rules.{rules}

@@ -1,4 +1,5 @@
 -- `reports::visits::write_visits` meets its contract.
+-- Kept: the check does not find what stands here, also with the lemmas named on the function.
 use mathlib.Core.Path.{ap₂, ◌∙◌}
 use mathlib.Core.List.{List, map}
 use Prim.Native.Nat.{ℕ}

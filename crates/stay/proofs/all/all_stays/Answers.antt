@@ -1,4 +1,5 @@
 -- `stay::all::all_stays` meets its contract.
+-- Kept: the check does not find what stands here, also with the lemmas named on the function.
 use mathlib.Core.Path.{◌≡◌, ap, ◌∙◌}
 use mathlib.Core.List.{[]}
 use Prim.Native.Nat.{◌+◌}
