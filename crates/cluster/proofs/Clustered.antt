@@ -51,14 +51,12 @@ unfolding run_infomap
 labels_few r net seed e = subst (λ (l : List ℕ). label_count l ≤ length l) (sym (ap (λ (g : Grouping). g.partition) e)) (dense_few (kept_grouping net seed).partition)
 
 -- k labels in front of 512 numbers
-front : (k : ℕ) → k ≤ 512 → length {A = ℕ} (take k (replicate 512 0)) ≡ k
-front k h = length-take-le k (replicate 512 0) h
-
 pub front_few : (k seed : ℕ) (r : Kept) (net : Network) (ls end : List ℕ) → grouping_of ls r ≡ run_infomap net seed → length ls ≡ length {A = ℕ} (take k (replicate 512 0)) → k ≤ 512
     → label_count (take k (ls ++ end)) ≤ 512
 front_few k seed r net ls end e l h =
-    let o : take k (ls ++ end) ≡ ls = take_at ls end k (l ∙ front k h) in
-    rw o (omega (arith, labels_few r net seed e, l, front k h, h))
+    let room = length-take-le k (replicate 512 0) h in
+    let o : take k (ls ++ end) ≡ ls = take_at ls end k (l ∙ room) in
+    rw o (omega (arith, labels_few r net seed e, l, room, h))
 
 module _ (dist : Metric) (r2 : Float) (ps : List Place) where
   -- The compacted table is that of the nodes' network.
@@ -95,5 +93,5 @@ module _ (dist : Metric) (r2 : Float) (ps : List Place) where
       → length ls ≡ length {A = ℕ} (take (length ns) (replicate 512 0)) → length ns ≤ 512 → m ≡ n → length s ≡ n * n
       → length ps ≡ n → Tabled (weight dist r2 ps) n t (n * n) → ns ≡ nodes dist r2 ps → clustering_of labels r ≡ cluster dist r2 single seed ps
   grouped single seed n ns r labels t s ls end m d g c rise l k q long e w i =
-      let o : take (length ns) (ls ++ end) ≡ ls = take_at ls end (length ns) (l ∙ front (length ns) k) in
+      let o : take (length ns) (ls ++ end) ≡ ls = take_at ls end (length ns) (l ∙ length-take-le (length ns) (replicate 512 0) k) in
       cluster_is single seed r i (q ∙ sym e) (g ∙ ap (λ (x : Network). run_infomap x seed) (network_front n ns t s i rise w c long)) (rw o at d)

@@ -55,15 +55,12 @@ unfolding kept_grouping
 kept_none n seed c h p e = rw (h, e, p)
 
 -- in front of 512 numbers, as many as the network has nodes
-front : (k : ℕ) → k ≤ 512 → length {A = ℕ} (take k (replicate 512 0)) ≡ k
-front k h = length-take-le k (replicate 512 0) h
-
 pub nodes_front : (t : List Float) (m k : ℕ) {net : Network} → net ≡ network t m k → k ≤ 512 → length {A = ℕ} (take k (replicate 512 0)) ≡ length net.strength
-nodes_front t m k e h = front k h ∙ sym (ap (λ (x : Network). length x.strength) e ∙ length_network t m k)
+nodes_front t m k e h = length-take-le k (replicate 512 0) h ∙ sym (ap (λ (x : Network). length x.strength) e ∙ length_network t m k)
 
 pub run_is : (n : Network) (seed k : ℕ) (r : Kept) (best end : List ℕ) {labels : List ℕ} {net : Network} → net ≡ n → grouping_of best r ≡ kept_grouping net seed → labels ≡ relabel_dense (take k (best ++ end))
     → length best ≡ length {A = ℕ} (take k (replicate 512 0)) → k ≤ 512 → grouping_of labels r ≡ run_infomap n seed
 unfolding run_infomap
 run_is n seed k r best end e g d l h =
-    let o : take k (best ++ end) ≡ best = take_at best end k (l ∙ front k h) in
+    let o : take k (best ++ end) ≡ best = take_at best end k (l ∙ length-take-le k (replicate 512 0) h) in
     rw (d, o, ← e, ← g)

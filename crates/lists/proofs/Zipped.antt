@@ -11,7 +11,7 @@ use Rattle.std.specs.Slice.Iter.{iter_rest}
 use Rattle.std.proofs.iter.Yields.{fronts}
 use Rattle.std.proofs.lemmas.Iterator.{empty_from_Zip}
 
--- Where one of the two rests is empty and they have one length, both are empty.
+-- Where one of the two rests is empty and they have one length, both are empty: the first is.
 module _ {A B : Type 0} (s : Zip (Iter A) (Iter B)) (e : ((u : Iter A) × fronts (zip_first s) None u) ⊎ ((u : Iter B) × fronts (zip_second s) None u))
     (n : length (iter_rest (zip_first s)) ≡ length (iter_rest (zip_second s))) where
   pub both_spent : iter_rest (zip_first s) ≡ []

@@ -10,8 +10,8 @@ use lib.Signed.{le_z}
 use mir.Syntax.{w32}
 use mir.Val.{SFits}
 use Rattle.std.specs.Int.{FitsUnsignedBits}
-use Rattle.text.specs.Bytes.{bytes}
 use Rattle.print.specs.Lines.{label_text}
+use Rattle.print.proofs.LabelLines.{none_text}
 use Rattle.posting.specs.Sheet.{right_aligned}
 use Rattle.posting.specs.Posted.{in_column}
 
@@ -21,9 +21,8 @@ few_digits (pos m) h = let k = leb-true m 511 h in omega arith
 few_digits (negsuc m) h = let z : m ≡ 0 = eqb-true m 0 h in omega arith
 
 pub none_column : (l : ℤ) → SFits w32 l → (FitsUnsignedBits 64 l → ⊥) → right_aligned 3 (label_text l) ≡ 32 ∷ 45 ∷ 49 ∷ []
-unfolding label_text right_aligned bytes
-none_column (pos m) s f = absurd (f (omega (arith, s.sfits)))
-none_column (negsuc m) s f = refl
+unfolding right_aligned
+none_column l s f = rw (none_text l s f) refl
 
 -- ---- the test of the code
 

@@ -4,7 +4,7 @@ use mathlib.Core.Logic.{inl, inr}
 use Prim.Native.Nat.{ℕ, zero, suc, ◌<◌}
 use mathlib.Core.Bool.{Bool, true, false, cond, true≢false}
 use mathlib.Core.List.{List, [], ◌∷◌}
-use lib.ListN.{length, length-set}
+use lib.ListN.{length}
 use lib.Ieee.{Float, lt}
 use Rattle.lists.specs.Lists.{upto, Has}
 use Rattle.lists.proofs.Upto.{length_upto}
@@ -18,6 +18,7 @@ use Rattle.map_state.specs.MapState.{MapState, apply_move}
 use Rattle.codelength.specs.Codelength.{from_partition, codelength}
 use Rattle.scan.specs.Scan.{Answer, no_move, move, scan, isolate}
 use Rattle.optimize.specs.Rounds.{Pass, act, pass, Run, round, run_rounds, started, optimize_partition}
+use Rattle.optimize.proofs.Ends.{trial_length}
 use Rattle.infomap.specs.Infomap.{Grouping, rest, none_kept, trial_mark, keep, trials, best_of_three, kept_grouping}
 
 -- A scan or an isolation test.
@@ -97,21 +98,9 @@ module _ (net : Network) (Q : List ℕ → Type 0) (each : (x : ℕ) → Q (opti
 
 -- ---- a partition gives each node a number
 module _ (net : Network) where
-  by_any : (f : Test) → MovesKeep net (λ s. length s.partition ≡ length net.strength) f
-  unfolding apply_move
-  by_any f s u h change i p e = length-set s.partition u h ∙ p
-
-  start_length : length (from_partition net (upto (length net.strength))).partition ≡ length net.strength
-  unfolding from_partition
-  start_length = length_upto (length net.strength)
-
-  -- Every trial's partition is as long as there are nodes.
-  pub trial_length : (x : ℕ) → length (optimize_partition net x).state.partition ≡ length net.strength
-  trial_length = trial_keeps net (λ s. length s.partition ≡ length net.strength) (by_any scan) (by_any isolate) start_length
-
-  -- So is the kept grouping's.
+  -- The kept grouping's partition is as long as there are nodes, as every trial's is.
   pub kept_length : (seed : ℕ) → length (kept_grouping net seed).partition ≡ length net.strength
-  kept_length = kept_keeps net (λ part. length part ≡ length net.strength) trial_length (length_upto (length net.strength))
+  kept_length = kept_keeps net (λ part. length part ≡ length net.strength) (trial_length net) (length_upto (length net.strength))
 
 -- ---- a pass that moved nothing
 

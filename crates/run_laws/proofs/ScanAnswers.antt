@@ -20,7 +20,8 @@ use Rattle.scan.proofs.Candidates.{each, candidates_have}
 use Rattle.scan.proofs.Isolation.{first_bound}
 use Rattle.optimize.specs.Rounds.{optimize_partition}
 use Rattle.run_laws.proofs.Ways.{Linked}
-use Rattle.run_laws.proofs.Quiet.{trial_no_moves, trial_length}
+use Rattle.optimize.proofs.Ends.{trial_length}
+use Rattle.run_laws.proofs.Quiet.{trial_no_moves}
 
 -- ---- a neighbour's group is a candidate
 all_has : (P : ℕ → Type 0) (l : List ℕ) (x : ℕ) → All P l → Has l x → P x
