@@ -2,6 +2,7 @@
 use edited::cluster::build_edges;
 use edited::config::Config;
 use edited::distance::{Euclidean, MetricKind};
+use edited::empty::Walked;
 use edited::error::Error;
 use edited::infomap::{self, run_infomap, Network};
 use edited::model::{self, Infostop};
@@ -192,9 +193,11 @@ fn fit_case(n: &mut Numbers) -> (Config, Vec<Vec<TimedPoint>>) {
     (config, traces)
 }
 
-/// Fits, and puts 0 0 and the answer, or the refusal. 24 is added: it comes behind the Rust's check of the settings, before its check of the tracks.
+/// Fits, and puts 0 0 and the answer, or the refusal. The Rust is given the traces that have a fix. 24 is added: it comes behind the Rust's check of
+/// the settings, before its check of the tracks; so is 18 for a list of only empty traces.
 fn fit(n: &mut Numbers, out: &mut Line) {
     let (config, traces) = fit_case(n);
+    let walked = Walked::of(traces);
     let resolution = config.min_spatial_resolution;
     let run = || {
         let mut model = Infostop::from_config(config)?;
@@ -202,14 +205,18 @@ fn fit(n: &mut Numbers, out: &mut Line) {
             out.put(24).put(0);
             return Ok(());
         }
+        if walked.only_empty() {
+            out.put(18).put(0);
+            return Ok(());
+        }
         record::clear();
-        let labels = model.fit_predict_many(&traces)?;
+        let labels = model.fit_predict_many(&walked.traces)?;
         out.put(0).put(0);
         put_fit(labels, &model, out)
     };
     if let Err(e) = run() {
         let (number, trace) = refusal(&e);
-        out.put(number).put(trace);
+        out.put(number).put(walked.counted_back(number, trace));
     }
 }
 

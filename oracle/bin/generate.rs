@@ -1,5 +1,6 @@
 //! generate LAYER: writes the list of cases of a layer, always the same. The layers and their forms are in README.md.
 //! generate fits FOLDER COUNT SEED: writes COUNT made fits into FOLDER, in lists that `replay_fit` has room for, always the same ones for a seed.
+use edited::empty;
 use edited::fit::{timed_pair, twice, untimed, Fit};
 use edited::grid;
 use edited::infomap::{run_infomap, Network};
@@ -808,19 +809,27 @@ fn fit(r: &mut Random) -> Cases {
     }
     fits.extend(telling_fits());
     fits.extend(grid::fixed(r, 120));
+    let tracks: Vec<Fit> = [0, 3, 13, 14, 15, 16].map(|i| fits[i].clone()).into();
+    fits.extend(empty::fixed(r, &tracks, 40));
     fits.iter().map(Fit::line).collect()
 }
 
-/// COUNT made fits as lists of at most 400, each below the 1,000,000 bytes that `replay_fit` has room for.
+/// COUNT made fits as lists of at most 400, each below the 1,000,000 bytes that `replay_fit` has room for. About every second one is given empty
+/// traces, from random numbers of their own, so that all else is drawn as it would be without them.
 fn write_fits(folder: &str, count: usize, seed: u64) {
     let mut r = Random(seed);
+    let mut gaps = Random(!seed);
     let mut left = count;
     let mut number = 0;
     while left > 0 {
         let n = left.min(400);
         let mut text = format!("{n}\n");
         for _ in 0..n {
-            text += &grid::made(&mut r, 6).line().text();
+            let mut fit = grid::made(&mut r, 6);
+            if gaps.chance(2) {
+                empty::scatter(&mut gaps, &mut fit);
+            }
+            text += &fit.line().text();
             text.push('\n');
         }
         let path = Path::new(folder).join(format!("{number:04}.cases"));

@@ -2,6 +2,7 @@
 pub mod cluster;
 pub mod config;
 pub mod distance;
+pub mod empty;
 pub mod error;
 pub mod fit;
 pub mod grid;

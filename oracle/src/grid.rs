@@ -385,7 +385,7 @@ fn walk(
     trace
 }
 
-/// One fault of a kind that the Rust refuses.
+/// One fault of a kind that the Rust refuses, or a trace emptied.
 fn spoil(r: &mut Random, fit: &mut Fit) {
     let bad = r.pick(&[f64::NAN, f64::INFINITY, 0.0, -1.0]);
     let t = r.below(fit.traces.len());

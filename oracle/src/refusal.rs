@@ -4,7 +4,7 @@ use crate::text::fail;
 
 /// The rules' number of a refusal, and its trace.
 pub fn refusal(e: &Error) -> (u32, usize) {
-    const CAUSES: [(&str, u32); 14] = [
+    const CAUSES: [(&str, u32); 13] = [
         ("`r1` must", 1),
         ("`r2` must", 2),
         ("`min_staying_time` must be finite", 3),
@@ -12,7 +12,6 @@ pub fn refusal(e: &Error) -> (u32, usize) {
         ("`max_time_between` must be >", 5),
         ("`min_size` must", 6),
         ("expected at least one trajectory", 7),
-        ("trajectory is empty", 11),
         ("coordinates must be finite", 12),
         ("timestamps must be finite", 13),
         ("timestamps must be present", 14),

@@ -5,3 +5,6 @@ pub mod Lengths
 pub mod Usable
 pub mod Accepted
 pub mod Unread
+pub mod AlikeTraces
+pub mod Recounted
+pub mod OnlyEmpty

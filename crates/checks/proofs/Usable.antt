@@ -1,4 +1,4 @@
--- What holds of a trace that the checks accept: the rules' 11 to 16 do not.
+-- What holds of a trace that the checks accept: the rules' 12 to 16 do not. An empty one is always accepted.
 use mathlib.Core.Path.{◌≡◌, refl, sym, ap, ◌∙◌}
 use mathlib.Core.Bool.{Bool, true, false, not, ◌&&◌}
 use mathlib.Core.List.{List, [], ◌∷◌}
@@ -6,26 +6,24 @@ use mathlib.Core.Logic.{◌⊎◌, inl, inr}
 use mathlib.Core.Option.{some}
 use Prim.Native.Nat.{ℕ, zero, suc, ◌<◌}
 use native.Mathlib.Omega.{arith}
-use borrow.Author.Tests.{eqb-false, not-true, not-false}
-use lib.Dec.{eqb}
+use borrow.Author.Tests.{not-true, not-false}
 use lib.ListN.{length, get_or}
 use lib.Ieee.{Float, le, lt}
 use Rattle.lists.proofs.Tests.{and_left, and_right}
 use Rattle.float.specs.Binary64.{finite}
 use Rattle.float.proofs.Order.{le_is, finite_number}
 use Rattle.distance.specs.Limit.{in_limit}
-use Rattle.trace.specs.Trace.{Fix, timed}
+use Rattle.trace.specs.Trace.{Fix, timed, traces}
 use Rattle.trace.proofs.Fixes.{no_fix, point_at, time_at}
 use Rattle.std.specs.Prelude.{Ok}
-use Rattle.settings.specs.declared.refusal.Refusal.TheVariants.{EmptyTrace, Coordinate, Timestamp, PartlyTimed, TimeOrder, CoordinateSize}
+use Rattle.settings.specs.Checks.{Checked, first_of, each_of, each_from}
+use Rattle.settings.specs.declared.refusal.Refusal.TheVariants.{Coordinate, Timestamp, PartlyTimed, TimeOrder, CoordinateSize}
 -- Named so that the examples are checked before these lemmas.
 use Rattle.checks.specs.Examples
 use Rattle.checks.specs.Traces.{finite_point, finite_time, untimed, partly_timed, above, above_first, in_time_order, check_fix, check_times, check_trace, check_fix_size, check_size}
-use Rattle.settings.proofs.Turns.{passed, turn_first, turn_rest, each_at}
+use Rattle.settings.proofs.Turns.{turns, passed, turn_first, turn_rest, each_at}
 
 pub record Usable (t : List Fix) : Type 0 where
-  -- It has a fix.
-  pub some_fix : 0 < length t
   -- Coordinates are finite and within the limit.
   pub finite_points : (i : ℕ) → i < length t → finite_point (point_at t i) ≡ true
   pub in_limit_lem : (i : ℕ) → i < length t → in_limit (point_at t i) ≡ true
@@ -45,17 +43,13 @@ not_partly t h = go (timed t) (untimed t) refl refl h
     go false false p q h = inl (p ∙ sym h)
 
 module _ (k : ℕ) (t : List Fix) (h : check_trace k t ≡ Ok tt) (l : check_size k t ≡ Ok tt) where
-  has_fix : 0 < length t
-  unfolding check_trace
-  has_fix = let a : (length t ≡ 0 → ⊥) = eqb-false (length t) 0 (passed (eqb (length t) 0) (EmptyTrace k) (turn_first _ _ h)) in omega arith
-
   fix : (i : ℕ) → i < length t → check_fix k (get_or t i no_fix) ≡ Ok tt
   unfolding check_trace
-  fix i n = each_at (check_fix k) t no_fix (turn_first _ _ (turn_rest _ _ h)) i n
+  fix i n = each_at (check_fix k) t no_fix (turn_first _ _ h) i n
 
   times : check_times k t ≡ Ok tt
   unfolding check_trace
-  times = turn_first _ _ (turn_rest _ _ (turn_rest _ _ h))
+  times = turn_first _ _ (turn_rest _ _ h)
 
   point : (i : ℕ) → i < length t → finite_point (point_at t i) ≡ true
   unfolding check_fix
@@ -78,7 +72,23 @@ module _ (k : ℕ) (t : List Fix) (h : check_trace k t ≡ Ok tt) (l : check_siz
   size i n = not-false _ (passed (not (in_limit (point_at t i))) (CoordinateSize k) (each_at (check_fix_size k) t no_fix l i n))
 
   pub trace_usable : Usable t
-  trace_usable = record { some_fix = has_fix; finite_points = point; in_limit_lem = size; all_or_none = not_partly t partly; finite_times = time; in_time_order_lem = order }
+  trace_usable = record { finite_points = point; in_limit_lem = size; all_or_none = not_partly t partly; finite_times = time; in_time_order_lem = order }
+
+-- ---- an empty trace
+
+pub none_refused : (k : ℕ) → check_trace k [] ≡ Ok tt
+unfolding check_trace check_times partly_timed timed untimed in_time_order turns each_of
+none_refused k = refl
+
+pub none_far : (k : ℕ) → check_size k [] ≡ Ok tt
+unfolding check_size each_of
+none_far k = refl
+
+-- A check that accepts an empty trace passes over it.
+pub over_empty : (f : ℕ → List Fix → Checked) → ((k : ℕ) → f k [] ≡ Ok tt) → (n : ℕ) (ns : List ℕ) (k : ℕ) (fs : List Fix) → n ≡ 0
+    → each_from f k (traces (n ∷ ns) fs) ≡ each_from f (suc k) (traces ns fs)
+unfolding each_from traces first_of
+over_empty f pass n ns k fs z = rw (z, pass k)
 
 -- ---- times do not fall
 

@@ -1,4 +1,5 @@
 pub mod Traces
 pub mod Tracks
+pub mod Recounted
 pub mod Steps
 pub mod Examples

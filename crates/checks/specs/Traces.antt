@@ -1,12 +1,12 @@
--- The checks of one trace, of number k: the rules' refusals 11 to 16. Definitions only.
-use Rattle.std.specs.Prelude.{ℕ, Bool, true, false, not, ◌&&◌, List, [], ◌∷◌, eqb, length, Float}
+-- The checks of one trace, of number k: the rules' refusals 12 to 16. An empty trace has none of them. Definitions only.
+use Rattle.std.specs.Prelude.{ℕ, Bool, true, false, not, ◌&&◌, List, [], ◌∷◌, Float}
 use Rattle.std.proofs.Math.Option.{Option, none, some}
 use Rattle.std.specs.Float.Ieee.{lt}
 use Rattle.float.specs.Binary64.{finite}
 use Rattle.distance.specs.declared.Point.{Point}
 use Rattle.distance.specs.Limit.{in_limit}
 use Rattle.trace.specs.Trace.{Fix, has_time, timed}
-use Rattle.settings.specs.declared.refusal.Refusal.TheVariants.{EmptyTrace, Coordinate, Timestamp, PartlyTimed, TimeOrder, CoordinateSize}
+use Rattle.settings.specs.declared.refusal.Refusal.TheVariants.{Coordinate, Timestamp, PartlyTimed, TimeOrder, CoordinateSize}
 use Rattle.settings.specs.Checks.{Checked, refuse_if, in_turn, each_of}
 
 -- Both coordinates are finite.
@@ -50,9 +50,9 @@ in_time_order (f ∷ fs) = not (above_first f.time fs) && in_time_order fs
 unfoldable pub check_times : ℕ → List Fix → Checked
 check_times k t = in_turn (refuse_if (partly_timed t) (PartlyTimed k) ∷ refuse_if (not (in_time_order t)) (TimeOrder k) ∷ [])
 
--- One trace: 11, then fix by fix 12 before 13, then 14, 15.
+-- One trace: fix by fix 12 before 13, then 14, 15.
 unfoldable pub check_trace : ℕ → List Fix → Checked
-check_trace k t = in_turn (refuse_if (eqb (length t) 0) (EmptyTrace k) ∷ each_of (check_fix k) t ∷ check_times k t ∷ [])
+check_trace k t = in_turn (each_of (check_fix k) t ∷ check_times k t ∷ [])
 
 -- One fix: 16. The size limit is a constant of crate `distance`.
 unfoldable pub check_fix_size : ℕ → Fix → Checked

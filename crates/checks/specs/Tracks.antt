@@ -30,7 +30,7 @@ check_work fixes places floats words = refuse_if (ltb floats (4 * fixes + places
 unfoldable pub check_mark : ℕ → Checked
 check_mark m = refuse_if (ltb 1 m) TimeMark
 
--- 17 at all marks, then 11 to 15 trace by trace, then 16 trace by trace.
+-- 17 at all marks, then 12 to 15 trace by trace, then 16 trace by trace. A trace's number counts the empty ones.
 unfoldable pub check_contents : List Float → List Float → List Float → List ℕ → List ℕ → Checked
 check_contents xs ys ts ms lens =
     in_turn

@@ -1,4 +1,4 @@
-// The checks of what tracks hold that have passed 8 and 9: 17, then 11 to 16.
+// The checks of what tracks hold that have passed 8 and 9: 17, then 12 to 16.
 ghost use Rattle.std.specs.Prelude.{◌≡◌, ◌≤◌, ℕ, List, length};
 ghost use Rattle.trace.specs.Trace.{Fix};
 ghost use Rattle.trace.specs.declared.Trace.{Trace};
@@ -27,7 +27,7 @@ fn each_trace<'a, F: Fn(usize, Trace<'a>) -> Result<(), Refusal>>(
     Ok(())
 }
 
-// 17, then 11 to 15 trace by trace, then 16 with the first trace that has it.
+// 17, then 12 to 15 trace by trace, then 16 with the first trace that has it.
 #[tactic(auto, unfolding(crate::specs::Tracks::check_contents, settings::proofs::Turns::turns))]
 pub fn check_contents(t: Agreed) -> Result<(), Refusal>
     requires { length t.tracks.lens.now ≤ 256 }

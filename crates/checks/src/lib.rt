@@ -1,5 +1,5 @@
 // The checks of tracks that come before a fit (docs/RULES.md, "When no labels are given"), in its order: 7, 8, 9, 10, 17; then trace by trace
-// 11 to 15; after all traces 16.
+// 12 to 15; after all traces 16. A trace's number counts the empty ones.
 #![tactic(auto)]
 
 mod contents;

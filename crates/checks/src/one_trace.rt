@@ -1,4 +1,4 @@
-// The checks of one trace, of number k: 11 to 16.
+// The checks of one trace, of number k: 12 to 16. An empty trace has none of them.
 ghost use Rattle.std.specs.Prelude.{◌≡◌, not, ◌&&◌, ◌==◌, ◌<◌, Float, Option};
 ghost use Rattle.std.specs.List.{list_any};
 ghost use Rattle.distance.specs.declared.Point.{Point};
@@ -65,14 +65,11 @@ fn check_times(k: usize, t: Trace) -> Result<(), Refusal>
     Ok(())
 }
 
-// 11 to 15.
-#[tactic(auto, using(trace::proofs::Fixes::fixes_length), unfolding(crate::specs::Traces::check_trace, settings::proofs::Turns::turns))]
+// 12 to 15.
+#[tactic(auto, unfolding(crate::specs::Traces::check_trace, settings::proofs::Turns::turns))]
 pub fn check_trace(k: usize, t: Trace) -> Result<(), Refusal>
     ensures { result ≡ check_trace k (fixes_of t.entry) }
 {
-    if t.xs.is_empty() {
-        return Err(Refusal::EmptyTrace(k));
-    }
     each_fix(t, |p, time| crate::fix::check_fix(k, p, time))?;
     check_times(k, t)
 }

@@ -9,3 +9,4 @@ pub mod Placed
 pub mod Ending
 pub mod Promises
 pub mod FittedModel
+pub mod WithoutEmpty

@@ -1,4 +1,4 @@
--- The rules' starred facts, and facts of the grid, proved together about the definitions by computing them.
+-- The rules' starred facts, those of the grid and of empty traces among them, proved together about the definitions by computing them.
 use Rattle.std.specs.Prelude.{◌≡◌, refl, true, [], ◌∷◌, pos}
 use Rattle.std.specs.Float.{binary64}
 use Rattle.std.specs.Float.Ieee.{eq, ne, neg, of_bits, to_bits, is_nan}
@@ -17,13 +17,14 @@ use Rattle.rng.specs.Facts.{from_state_1, seeds_42_43}
 use Rattle.rng.specs.Rng.{seeded, next_u64}
 use Rattle.cluster.specs.Examples.{cluster_computed}
 use Rattle.cluster.specs.Cluster.{none_labelled}
+use Rattle.settings.specs.declared.refusal.Refusal.TheVariants.{TimeOrder}
 use Rattle.settings.specs.Checks.{refuse_if, first_of, in_turn, each_of, each_from}
 use Rattle.settings.specs.Tries.{with_step}
 use Rattle.settings.specs.Settings.{unusable, negative, out_of_bounds, check_time_bounds, check_resolution, check_config}
 use Rattle.checks.specs.Traces.{finite_point, finite_time, check_fix, untimed, partly_timed, above, above_first, in_time_order, check_times, check_trace, check_fix_size, check_size}
 use Rattle.checks.specs.Tracks.{same_lengths, check_lengths, check_counts, check_work, check_mark, check_contents, check_tracks}
 use Rattle.cluster.specs.FixLabels.{label_for, fix_labels}
-use Rattle.infostop.specs.Fit.{unless_none, given_by, from_places, from_medians, fit_traces, unless_refused, fit}
+use Rattle.infostop.specs.Fit.{refused, unless_none, given_by, from_places, from_medians, fit_traces, unless_refused, fit}
 use Rattle.infostop.specs.Tries.{at, at_time, twice, fit_with, fit_of, number, labels, result_of, places_of, place_count, pair_links}
 
 -- Of numbers.
@@ -72,6 +73,16 @@ pub record GridFacts : Type 0 where
   pub one_label : result_of (fit_with (with_step (whole64 7)) (twice (at 8 0) ∷ twice (at 10 0) ∷ [])) ≡ labels (pos 0 ∷ pos 0 ∷ pos 0 ∷ pos 0 ∷ [])
   pub apart : place_count (fit_of (twice (at 8 0) ∷ twice (at 10 0) ∷ [])) ≡ 2
 
+-- Of empty traces.
+pub record EmptyFacts : Type 0 where
+  -- An empty trace; (0,0) twice; an empty trace: 0 0.
+  pub around : result_of (fit_of ([] ∷ twice (at 0 0) ∷ [] ∷ [])) ≡ labels (pos 0 ∷ pos 0 ∷ [])
+  -- Two empty traces: 18. No trace: 7.
+  pub only_empty : result_of (fit_of ([] ∷ [] ∷ [])) ≡ number 18
+  pub no_trace : result_of (fit_of []) ≡ number 7
+  -- An empty trace; (0,0) twice at times 10, 9: 15, trace 1.
+  pub counted : fit_of ([] ∷ (at_time 0 0 10 ∷ at_time 0 0 9 ∷ []) ∷ []) ≡ refused (TimeOrder 1)
+
 pub numbers : NumberFacts
 numbers = record { root_25 = float_examples.root_25; root_2 = float_examples.root_2; ln_1 = float_examples.ln_1; generator = from_state_1; seeds = seeds_42_43; middle = median_2_5 }
 
@@ -104,3 +115,7 @@ tracks =
 pub grid : GridFacts
 unfolding fit_computed
 grid = record { half = refl; minus_half = refl; minus_zero = refl; below_half = refl; together = refl; one_label = refl; apart = refl }
+
+pub empty : EmptyFacts
+unfolding fit_computed
+empty = record { around = refl; only_empty = refl; no_trace = refl; counted = refl }

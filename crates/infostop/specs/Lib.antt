@@ -1,4 +1,5 @@
 pub mod Fit
+pub mod SameOutcome
 pub mod Demand
 pub mod Tries
 pub mod Facts

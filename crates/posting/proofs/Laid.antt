@@ -1,18 +1,22 @@
 -- What the sheet says where its check accepts: its length, its pages, and each line read back. So no two lists of labels give one sheet.
-use mathlib.Core.Path.{◌≡◌, refl, sym, ap, ◌∙◌}
+use mathlib.Core.Path.{◌≡◌, refl, sym, ap, ◌∙◌, subst}
+use mathlib.Core.Bool.{Bool, true, false}
 use mathlib.Core.List.{List, []}
-use mathlib.Core.Option.{some}
-use Prim.Native.Nat.{ℕ, ◌+◌, ◌*◌, ◌<◌}
+use mathlib.Core.Option.{none, some, bind}
+use Prim.Native.Nat.{ℕ, ◌+◌, ◌-◌, ◌*◌, ◌/◌, ◌%◌, ◌<◌}
 use native.Mathlib.Omega.{arith}
+use borrow.Author.Tests.{eqb-true, eqb-false}
+use lib.Dec.{eqb}
 use lib.IntN.{ℤ, pos}
 use lib.ListN.{length, get_or}
 use lib.Seq.{ext_get_or}
 use Rattle.std.specs.Prelude.{Ok}
 use Rattle.trace.proofs.Parts.{offset_within}
-use Rattle.text.specs.Bytes.{line_feed}
+use Rattle.text.specs.Bytes.{line_feed, is_digit}
+use Rattle.text.specs.Fields.{field_of, digits_of, all_digits}
 use Rattle.posting.specs.Sheet.{Entry, entry, entry_line, entries, heading, per_page, page_count, sheet}
 use Rattle.posting.specs.Posted.{check_sheet}
-use Rattle.posting.specs.Meaning.{Laid, line_at, line_of, fix_number, read_entry}
+use Rattle.posting.specs.Meaning.{Laid, line_at, line_of, fix_number, read_entry, number_in, without_spaces}
 use Rattle.posting.specs.Steps.{SheetWithin, lines_from}
 use Rattle.posting.proofs.Pages.{sheet_lines}
 use Rattle.posting.proofs.Checked.{sheet_within}
@@ -52,6 +56,13 @@ laid lens labels room h =
     let w = sheet_within lens labels room h in
     record { long = sheet_long lens labels w; feeds = feed_at lens labels w; headings = page_heading lens labels w; lines = fix_line_lem lens labels w }
 
+-- The line of fix k.
+module _ (lens : List ℕ) (labels : List ℤ) (room : ℕ) (h : check_sheet lens labels room ≡ Ok tt) where
+  fix_reads : (k : ℕ) (x : FixAt lens k) → read_entry (line_at (line_of k) (sheet lens labels)) ≡ some (entry x.trace x.fix (get_or labels k (pos 0)))
+  fix_reads k x =
+      subst (λ (i : ℕ). read_entry (line_at (line_of i) (sheet lens labels)) ≡ some (entry x.trace x.fix (get_or labels i (pos 0)))) x.here
+      ((laid lens labels room h).lines x.trace x.fix x.there x.inside)
+
 -- The labels can be read off the sheet.
 pub sheet_tells : (lens : List ℕ) (a b : List ℤ) (m n : ℕ) → check_sheet lens a m ≡ Ok tt → check_sheet lens b n ≡ Ok tt → sheet lens a ≡ sheet lens b → a ≡ b
 sheet_tells lens a b m n p q e =
@@ -61,13 +72,46 @@ sheet_tells lens a b m n p q e =
   where
     same : (k : ℕ) → FixAt lens k → get_or a k (pos 0) ≡ get_or b k (pos 0)
     same k x =
-        let t = x.trace in
-        let f = x.fix in
-        let i = fix_number lens t f in
-        let y = (laid lens a m p).lines t f x.there x.inside in
-        let z = (laid lens b n q).lines t f x.there x.inside in
-        let one : entry t f (get_or a i (pos 0)) ≡ entry t f (get_or b i (pos 0)) = cc in
-        rw (← x.here) (ap (λ (r : Entry). r.label) one)
+        let y = fix_reads lens a m p k x in
+        let z = fix_reads lens b n q k x in
+        let one : entry x.trace x.fix (get_or a k (pos 0)) ≡ entry x.trace x.fix (get_or b k (pos 0)) = cc in
+        ap (λ (r : Entry). r.label) one
+
+-- ---- an empty trace has no line
+
+-- A heading is no line of a fix.
+heading_none : read_entry heading ≡ none
+unfolding read_entry number_in without_spaces heading bind field_of digits_of all_digits is_digit
+heading_none = refl
+
+module _ (lens : List ℕ) (labels : List ℤ) (room : ℕ) (h : check_sheet lens labels room ≡ Ok tt) (e : Entry) where
+  -- The line of a fix is of a trace that has fixes.
+  fix_walked : (k : ℕ) → k < length labels → read_entry (line_at (line_of k) (sheet lens labels)) ≡ some e → 0 < get_or lens e.trace 0
+  fix_walked k below r =
+      let x = fix_at lens k (omega (arith, (sheet_within lens labels room h).sum)) in
+      let read = fix_reads lens labels room h k x in
+      let same : entry x.trace x.fix (get_or labels k (pos 0)) ≡ e = cc in
+      subst (λ (s : Entry). 0 < get_or lens s.trace 0) same (omega (arith, x.inside))
+
+  -- So is every line that reads back to one.
+  pub line_walked : (n : ℕ) → n < length labels + page_count (length labels) → read_entry (line_at n (sheet lens labels)) ≡ some e → 0 < get_or lens e.trace 0
+  unfolding page_count
+  line_walked n below r = go (eqb (n % (1 + per_page)) 0) refl
+    where
+      p : ℕ
+      p = n / (1 + per_page)
+
+      go : (b : Bool) → eqb (n % (1 + per_page)) 0 ≡ b → 0 < get_or lens e.trace 0
+      go true z =
+          let first : (1 + per_page) * p ≡ n = omega (arith, eqb-true (n % (1 + per_page)) 0 z) in
+          let head : line_at n (sheet lens labels) ≡ heading = subst (λ (i : ℕ). line_at i (sheet lens labels) ≡ heading) first ((laid lens labels room h).headings p (omega arith)) in
+          let none_some : none ≡ some e = sym heading_none ∙ ap read_entry (sym head) ∙ r in
+          absurd cc
+      go false z =
+          let behind = eqb-false (n % (1 + per_page)) 0 z in
+          let k : ℕ = per_page * p + (n % (1 + per_page) - 1) in
+          let here : line_of k ≡ n = omega (arith, behind) in
+          fix_walked k (omega (arith, behind)) (subst (λ (i : ℕ). read_entry (line_at i (sheet lens labels)) ≡ some e) (sym here) r)
 
 -- The lines stand in the order of the fixes.
 pub lines_rise : (i j : ℕ) → i < j → line_of i < line_of j

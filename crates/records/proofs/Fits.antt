@@ -30,7 +30,7 @@ use Rattle.records.specs.Steps.{Ready, ReadyFitted}
 use Rattle.records.proofs.Steps.{room_columns, room_marks}
 use Rattle.records.proofs.Columns.{in_row, columns_length, marks_length, columns_held, marks_held, xs_held, ys_held, times_held}
 use Rattle.records.proofs.Judged.{fixes_are}
-use Rattle.records.proofs.Early.{early, early_records}
+use Rattle.records.proofs.Early.{early_in, early_records}
 
 -- ---- the outcome by the checks
 
@@ -57,7 +57,7 @@ module _ (c : Config) (fs : List FixRecord) (lens : List ℕ) (labels cap column
 
   pub keeps_early : (d : Checked) → verdict ≡ d → keeps_work outcome ≡ is_refused d
   unfolding fit_records check_records
-  keeps_early (Err e) h = ap keeps_work (outcome_refused e h) ∙ ap early (sym h) ∙ early_records c fs lens labels cap columns marks floats words
+  keeps_early (Err e) h = ap keeps_work (outcome_refused e h) ∙ ap early_in (sym h) ∙ early_records c fs lens labels cap columns marks floats words
   keeps_early (Ok u) h =
       let both = first_both _ _ h in
       ap keeps_work (both_accepted c (xs_of fs) (ys_of fs) (times_of fs) (marks_of fs) lens labels cap (work_floats (length fs) columns marks floats) words

@@ -1,18 +1,16 @@
--- The machine over all records says what the checks of crate `checks` say of their columns: 17, then 11 to 15 trace by trace, then 16.
+-- The machine over all records says what the checks of crate `checks` say of their columns: 17, then 12 to 15 trace by trace, then 16.
 use mathlib.Core.Path.{◌≡◌, refl, sym, ap, ap₂, ◌∙◌}
 use mathlib.Core.Bool.{Bool, true, false, not, ◌&&◌, cond}
 use mathlib.Core.List.{List, [], ◌∷◌, map}
 use mathlib.Core.Option.{Option}
-use Prim.Native.Nat.{ℕ, suc, ◌+◌, ◌-◌, ◌<◌, ◌≤◌}
-use native.Mathlib.Nat.{pos_of_ne-zero}
-use native.Mathlib.Omega.{arith}
-use borrow.Author.Tests.{le-leb, lt-leb, ltb-true, ltb-false, eqb-true, eqb-false}
+use Prim.Native.Nat.{ℕ, suc, ◌-◌}
+use borrow.Author.Tests.{le-leb, lt-leb, ltb-true, ltb-false}
 use lib.Dec.{eqb, leb, ltb}
-use lib.ListN.{length, take, drop, get_or, length-map}
+use lib.ListN.{length, get_or, length-map}
 use lib.Ieee.{Float}
 use Rattle.trace.specs.Trace.{Fix, fixes, read_time, total, traces}
 use Rattle.settings.specs.declared.config.Config.{Config}
-use Rattle.settings.specs.declared.refusal.Refusal.TheVariants.{EmptyTrace, TimeMark}
+use Rattle.settings.specs.declared.refusal.Refusal.TheVariants.{TimeMark}
 use Rattle.std.specs.Prelude.{Ok, Err}
 use Rattle.settings.specs.Checks.{Checked, refuse_if, first_of, in_turn, each_of, each_from}
 use Rattle.settings.specs.Settings.{check_config}
@@ -24,36 +22,15 @@ use Rattle.checks.proofs.Lengths.{lengths_agree}
 use Rattle.records.specs.declared.FixRecord.{FixRecord}
 use Rattle.records.specs.declared.judge.Judge.{Judge}
 use Rattle.records.specs.Records.{fix_of, xs_of, ys_of, times_of, marks_of, work_floats}
-use Rattle.records.specs.StepsJudge.{begun, passed, ended, next, blank, started, stepped, run, contents, checks_from, check_records}
-use Rattle.records.proofs.Machine.{assoc, verdict, Owed, empty, owed_new, empty_trace, told}
+use Rattle.records.specs.StepsJudge.{first_with_fix, begun, opened, passed, ended, next, blank, started, stepped, run, contents, checks_from, check_records}
+use Rattle.records.proofs.Machine.{assoc, verdict, Rest, opening, told}
 
--- ---- 11 to 16 of all records
+-- ---- 12 to 16 of all records
 
-traces_told : (lens : List ℕ) (fs : List FixRecord) → 0 < length lens → total lens ≡ length fs
+traces_told : (lens : List ℕ) (fs : List FixRecord) → total lens ≡ length fs
     → verdict lens (run lens (started lens) fs) ≡ first_of (each_from check_trace 0 (traces lens (map fix_of fs))) (each_from check_size 0 (traces lens (map fix_of fs)))
-unfolding started begun blank refuse_if first_of traces each_from total
-traces_told [] fs h l = absurd (omega arith)
-traces_told (m ∷ ms) fs h l = by_count (eqb m 0) refl
-  where
-    gs : List Fix
-    gs = map fix_of fs
-
-    Both : Checked
-    Both = first_of (each_from check_trace 0 (traces (m ∷ ms) gs)) (each_from check_size 0 (traces (m ∷ ms) gs))
-
-    by_count : (b : Bool) → eqb m 0 ≡ b → verdict (m ∷ ms) (run (m ∷ ms) (started (m ∷ ms)) fs) ≡ Both
-    by_count true z =
-        let p : m ≡ 0 = eqb-true m 0 z in
-        empty (m ∷ ms) fs (started (m ∷ ms)) (Ok tt) (EmptyTrace 0) (rw z) (each_from check_size 0 (traces (m ∷ ms) gs))
-        ∙ sym (ap (λ (c : Checked). first_of c (each_from check_size 0 (traces (m ∷ ms) gs))) (empty_trace (m ∷ ms) 0 (take m gs)
-        (each_from check_trace 1 (traces ms (drop m gs))) (ap (λ (j : ℕ). length (take j gs)) p)))
-    by_count false z =
-        let p : 0 < m = pos_of_ne-zero (eqb-false m 0 z) in
-        let one : suc (m - 1) ≡ m = omega arith in
-        let fits : m ≤ length gs = rw (length-map fs fix_of) (omega arith) in
-        told (m ∷ ms) fs (started (m ∷ ms)) (m - 1) (sym one) (ap (λ (j : ℕ). j + total ms) one ∙ l)
-        ∙ ap (λ (j : ℕ). Owed (m ∷ ms) (started (m ∷ ms)) j gs) one
-        ∙ owed_new (m ∷ ms) blank 0 m gs p fits
+unfolding started
+traces_told lens fs l = opening lens fs blank 0 l (told lens fs) ∙ (unfold Rest blank first_of in refl)
 
 -- ---- 17
 
@@ -67,19 +44,21 @@ mark_one true m = go (ltb 1 m) refl
     go false e = rw (e, le-leb m 1 (ltb-false 1 m e))
 
 module _ (lens : List ℕ) where
+  mark_opened : (k : ℕ) (s : Judge) → (opened lens k s).marks ≡ s.marks
+  unfolding opened begun
+  mark_opened k s = go (ltb k (length lens))
+    where
+      go : (b : Bool) → (cond b (begun (first_with_fix lens k) (get_or lens (first_with_fix lens k) 0) s) s).marks ≡ s.marks
+      go true = refl
+      go false = refl
+
   mark_step : (s : Judge) (f : FixRecord) → (stepped lens s f).marks ≡ (s.marks && leb f.mark 1)
-  unfolding stepped passed next begun ended
+  unfolding stepped passed next ended
   mark_step s f = go (eqb (s.left - 1) 0)
     where
       go : (b : Bool) → (cond b (next lens (ended (passed f s))) (passed f s)).marks ≡ (s.marks && leb f.mark 1)
       go false = refl
-      go true = opened (ltb (suc s.trace) (length lens))
-        where
-          opened : (b : Bool)
-              → (cond b (begun (suc s.trace) (get_or lens (suc s.trace) 0) (ended (passed f s))) (ended (passed f s))).marks ≡ (s.marks && leb
-              f.mark 1)
-          opened true = refl
-          opened false = refl
+      go true = mark_opened (suc s.trace) (ended (passed f s))
 
   marks_told : (fs : List FixRecord) (s : Judge)
       → refuse_if (not (run lens s fs).marks) TimeMark ≡ first_of (refuse_if (not s.marks) TimeMark) (each_of check_mark (marks_of fs))
@@ -100,14 +79,17 @@ fixes_are [] = refl
 fixes_are (f ∷ fs) = ap₂ (λ (t : Option Float) (z : List Fix). record { at = f.at; time = t } ∷ z) (as_read f.mark f.time refl) (fixes_are fs)
 
 all_marks : (lens : List ℕ) (fs : List FixRecord) → refuse_if (not (run lens (started lens) fs).marks) TimeMark ≡ each_of check_mark (marks_of fs)
-unfolding started begun blank refuse_if first_of
-all_marks lens fs = marks_told lens fs (started lens)
+unfolding started
+all_marks lens fs =
+    marks_told lens fs (opened lens 0 blank)
+    ∙ ap (λ (b : Bool). first_of (refuse_if (not b) TimeMark) (each_of check_mark (marks_of fs))) (mark_opened lens 0 blank)
+    ∙ (unfold blank refuse_if first_of in refl)
 
-contents_told : (lens : List ℕ) (fs : List FixRecord) → 0 < length lens → total lens ≡ length fs
+contents_told : (lens : List ℕ) (fs : List FixRecord) → total lens ≡ length fs
     → contents (run lens (started lens) fs) ≡ check_contents (xs_of fs) (ys_of fs) (times_of fs) (marks_of fs) lens
 unfolding contents check_contents in_turn verdict
-contents_told lens fs h l =
-    ap₂ first_of (all_marks lens fs) (traces_told lens fs h l) ∙ rw (fixes_are fs, first_alone (each_from check_size 0 (traces lens (map fix_of fs))))
+contents_told lens fs l =
+    ap₂ first_of (all_marks lens fs) (traces_told lens fs l) ∙ rw (fixes_are fs, first_alone (each_from check_size 0 (traces lens (map fix_of fs))))
 
 in_turn_lem : (a b c d x y : Checked) → (b ≡ Ok tt → x ≡ y) → in_turn (a ∷ b ∷ c ∷ d ∷ x ∷ []) ≡ first_of a (in_turn (b ∷ c ∷ d ∷ y ∷ []))
 unfolding in_turn first_of
@@ -128,7 +110,7 @@ checks_told c fs lens labels cap columns marks floats words =
     )
     (in_turn_lem (check_config c) (check_lengths lens n n n n labels) (check_counts (length lens) n cap) (check_work n cap (work_floats n columns marks floats)
     words) (contents (run lens (started lens) fs)) (check_contents (xs_of fs) (ys_of fs) (times_of fs) (marks_of fs) lens)
-    (λ h. let w = lengths_agree lens n n n n labels h in contents_told lens fs w.some_trace w.sum))
+    (λ h. let w = lengths_agree lens n n n n labels h in contents_told lens fs w.sum))
   where
     n : ℕ
     n = length fs

@@ -1,9 +1,11 @@
 pub mod Steps
 pub mod Columns
 pub mod OpenTrace
+pub mod PassedOver
 pub mod Machine
 pub mod Judged
 pub mod Runs
 pub mod Early
 pub mod Fits
 pub mod Packing
+pub mod WithoutEmpty

@@ -4,11 +4,8 @@ use mathlib.Core.Bool.{Bool, true, false, cond, not, ◌&&◌, and-true, and_ass
 use mathlib.Core.List.{List, [], ◌∷◌}
 use mathlib.Core.Option.{none, some}
 use Rattle.std.specs.Bool.{then_some}
-use Prim.Native.Nat.{ℕ, ◌<◌}
-use native.Mathlib.Omega.{arith}
-use borrow.Author.Tests.{ne_eqb}
+use Prim.Native.Nat.{ℕ}
 use lib.Dec.{eqb}
-use lib.ListN.{length}
 use Rattle.trace.specs.Trace.{Fix, time_of, timed}
 use Rattle.settings.specs.declared.refusal.Refusal.TheVariants.{PartlyTimed, TimeOrder}
 use Rattle.settings.specs.Checks.{Checked, refuse_if, first_of, in_turn, each_of}
@@ -59,10 +56,10 @@ rest_fresh k ts = rw (untimed_first ts, first_alone (refuse_if (not (in_time_ord
     untimed_first [] = unfold above_first in refl
     untimed_first (u ∷ us) = unfold above_first above in refl
 
--- 11 to 15 but for the length.
+-- 12 to 15.
 unfoldable pub rest_trace : ℕ → Times → List Fix → Checked
 rest_trace k t ts = first_of (each_of (check_fix k) ts) (rest_times k t ts)
 
-pub trace_fresh : (k : ℕ) (ts : List Fix) → 0 < length ts → rest_trace k no_times ts ≡ check_trace k ts
+pub trace_fresh : (k : ℕ) (ts : List Fix) → rest_trace k no_times ts ≡ check_trace k ts
 unfolding rest_trace check_trace in_turn
-trace_fresh k ts h = rw (ne_eqb (length ts) 0 (λ e. omega arith), rest_fresh k ts, first_alone (check_times k ts)) (unfold refuse_if first_of in refl)
+trace_fresh k ts = rw (rest_fresh k ts, first_alone (check_times k ts))

@@ -8,7 +8,7 @@ use lib.ListN.{length, get_or}
 use Rattle.std.specs.Prelude.{Ok, Err}
 use Rattle.trace.specs.Trace.{Fix}
 use Rattle.settings.specs.declared.refusal.Refusal.{Refusal}
-use Rattle.settings.specs.declared.refusal.Refusal.TheVariants.{EmptyTrace, Coordinate, Timestamp, PartlyTimed, TimeOrder, CoordinateSize}
+use Rattle.settings.specs.declared.refusal.Refusal.TheVariants.{Coordinate, Timestamp, PartlyTimed, TimeOrder, CoordinateSize}
 use Rattle.settings.specs.Refusals.{number_of, trace_of}
 use Rattle.settings.specs.Checks.{Checked, refuse_if, first_of, in_turn}
 use Rattle.checks.specs.Traces.{check_fix, check_fix_size}
@@ -16,7 +16,7 @@ use Rattle.records.specs.declared.FixRecord.{FixRecord}
 use Rattle.records.specs.declared.judge.Times.{Times}
 use Rattle.records.specs.declared.judge.Judge.{Judge}
 use Rattle.records.specs.Records.{fix_of}
-use Rattle.records.specs.StepsJudge.{times_checked, begun, passed, ended, next, blank, started, stepped, run}
+use Rattle.records.specs.StepsJudge.{times_checked, first_with_fix, begun, opened, passed, ended, next, blank, started, stepped, run}
 
 -- The number of a refusal; 0 where there is none.
 abbrev pub number_in : Checked → ℕ
@@ -31,12 +31,11 @@ trace_in (Err e) = trace_of e
 -- The refusals of a trace from their numbers.
 unfoldable pub checked_of : ℕ → ℕ → Checked
 checked_of n k =
-    cond (eqb n 11) (Err (EmptyTrace k))
-    (cond (eqb n 12) (Err (Coordinate k))
+    cond (eqb n 12) (Err (Coordinate k))
     (cond (eqb n 13) (Err (Timestamp k))
     (cond (eqb n 14) (Err (PartlyTimed k))
     (cond (eqb n 15) (Err (TimeOrder k))
-    (cond (eqb n 16) (Err (CoordinateSize k)) (Ok tt))))))
+    (cond (eqb n 16) (Err (CoordinateSize k)) (Ok tt)))))
 
 -- What `Judge` holds, with refusals by number and trace.
 pub record Packed : Type 0 where
@@ -92,10 +91,6 @@ module _ (k : ℕ) where
   unfolding Known checked_of check_fix_size
   known_size g = known_if _ (CoordinateSize k) refl
 
-  known_empty : (b : Bool) → Known (refuse_if b (EmptyTrace k))
-  unfolding Known checked_of
-  known_empty b = known_if b (EmptyTrace k) refl
-
 -- A state whose refusals number and trace tell.
 record Told (s : Judge) : Type 0 where
   pub first : Known s.first
@@ -108,7 +103,15 @@ back s h = ap₂ (λ (a b : Checked). record { marks = s.marks; first = a; far =
 module _ (lens : List ℕ) where
   told_begun : (k n : ℕ) (s : Judge) → Told s → Told (begun k n s)
   unfolding begun
-  told_begun k n s h = record { first = known_first _ _ h.first (known_empty k (eqb n 0)); far = h.far }
+  told_begun k n s h = record { first = h.first; far = h.far }
+
+  told_opened : (k : ℕ) (s : Judge) → Told s → Told (opened lens k s)
+  unfolding opened
+  told_opened k s h = go (ltb k (length lens))
+    where
+      go : (b : Bool) → Told (cond b (begun (first_with_fix lens k) (get_or lens (first_with_fix lens k) 0) s) s)
+      go true = told_begun _ _ s h
+      go false = h
 
   told_ended : (s : Judge) → Told s → Told (ended s)
   unfolding ended
@@ -120,11 +123,7 @@ module _ (lens : List ℕ) where
 
   told_next : (s : Judge) → Told s → Told (next lens s)
   unfolding next
-  told_next s h = go (ltb (suc s.trace) (length lens))
-    where
-      go : (b : Bool) → Told (cond b (begun (suc s.trace) (get_or lens (suc s.trace) 0) s) s)
-      go true = told_begun _ _ s h
-      go false = h
+  told_next s h = told_opened (suc s.trace) s h
 
   told_step : (s : Judge) (f : FixRecord) → Told s → Told (stepped lens s f)
   unfolding stepped
@@ -141,7 +140,7 @@ module _ (lens : List ℕ) where
 
   told_start : Told (started lens)
   unfolding started blank
-  told_start = told_begun 0 (get_or lens 0 0) _ (record { first = unfold Known checked_of in refl; far = unfold Known checked_of in refl })
+  told_start = told_opened 0 blank (record { first = unfold Known checked_of in refl; far = unfold Known checked_of in refl })
 
   -- After any records.
   pub unpacked_all : (fs : List FixRecord) → unpacked (packed (run lens (started lens) fs)) ≡ run lens (started lens) fs

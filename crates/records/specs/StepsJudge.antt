@@ -1,10 +1,11 @@
 -- Serves the contracts of this crate's own functions; no public contract reaches it.
 -- The machine that judges records one by one, as the code does, and the verdict on them. proofs/Judged.antt joins it to the checks of crate
 -- `checks`. Definitions only.
-use Rattle.std.specs.Prelude.{ℕ, suc, ◌-◌, true, ◌&&◌, not, cond, List, [], ◌∷◌, eqb, leb, ltb, length, get_or, Float, Option, None, Ok}
+use Rattle.std.specs.Prelude.{ℕ, suc, ◌+◌, ◌-◌, true, ◌&&◌, not, cond, List, [], ◌∷◌, eqb, leb, ltb, length, drop, get_or, Float, Option, None, Ok}
 use Rattle.std.specs.Bool.{then_some}
+use Rattle.std.specs.List.{prefix_len}
 use Rattle.settings.specs.declared.config.Config.{Config}
-use Rattle.settings.specs.declared.refusal.Refusal.TheVariants.{EmptyTrace, PartlyTimed, TimeOrder, TimeMark}
+use Rattle.settings.specs.declared.refusal.Refusal.TheVariants.{PartlyTimed, TimeOrder, TimeMark}
 use Rattle.settings.specs.Checks.{Checked, refuse_if, first_of, in_turn}
 use Rattle.settings.specs.Settings.{check_config}
 use Rattle.trace.specs.StepsFixes.{given}
@@ -40,9 +41,17 @@ times_checked k t = first_of (refuse_if (not t.timed && not t.untimed) (PartlyTi
 
 -- ---- the machine
 
--- Trace k of n fixes is opened: 11.
+-- The first trace from k on that has a fix; where there is none, the number of traces.
+unfoldable pub first_with_fix : List ℕ → ℕ → ℕ
+first_with_fix lens k = k + prefix_len (λ (n : ℕ). eqb n 0) (drop k lens)
+
+-- Trace k of n fixes is opened.
 unfoldable pub begun : ℕ → ℕ → Judge → Judge
-begun k n s = record { marks = s.marks; first = first_of s.first (refuse_if (eqb n 0) (EmptyTrace k)); far = s.far; trace = k; left = n; times = no_times }
+begun k n s = record { marks = s.marks; first = s.first; far = s.far; trace = k; left = n; times = no_times }
+
+-- The first trace from k on that has a fix is opened. Where there is none, the machine goes to the end of the list; from there on it stays.
+unfoldable pub opened : List ℕ → ℕ → Judge → Judge
+opened lens k s = let j = first_with_fix lens k in cond (ltb k (length lens)) (begun j (get_or lens j 0) s) s
 
 -- A fix of the open trace: 12, 13, and 16 apart.
 unfoldable pub passed : FixRecord → Judge → Judge
@@ -59,19 +68,19 @@ passed f s = record {
 unfoldable pub ended : Judge → Judge
 ended s = record { marks = s.marks; first = first_of s.first (times_checked s.trace s.times); far = s.far; trace = s.trace; left = s.left; times = s.times }
 
--- The trace after the open one, where there is one.
+-- The trace after the open one that has a fix.
 unfoldable pub next : List ℕ → Judge → Judge
-next lens s = cond (ltb (suc s.trace) (length lens)) (begun (suc s.trace) (get_or lens (suc s.trace) 0) s) s
+next lens s = opened lens (suc s.trace) s
 
 -- Before the first record.
 unfoldable pub blank : Judge
 blank = record { marks = true; first = Ok tt; far = Ok tt; trace = 0; left = 0; times = no_times }
 
--- The first trace is opened.
+-- The first trace that has a fix is opened.
 unfoldable pub started : List ℕ → Judge
-started lens = begun 0 (get_or lens 0 0) blank
+started lens = opened lens 0 blank
 
--- One record: after the last of a trace the next one is opened.
+-- One record: after the last of a trace the next one that has a fix is opened.
 unfoldable pub stepped : List ℕ → Judge → FixRecord → Judge
 stepped lens s f = let t = passed f s in cond (eqb t.left 0) (next lens (ended t)) t
 
@@ -82,7 +91,7 @@ run lens s (f ∷ fs) = run lens (stepped lens s f) fs
 
 -- ---- the verdict
 
--- 17, then 11 to 15, then 16.
+-- 17, then 12 to 15, then 16.
 unfoldable pub contents : Judge → Checked
 contents s = first_of (refuse_if (not s.marks) TimeMark) (first_of s.first s.far)
 

@@ -1,9 +1,8 @@
 // The checks of records before anything is written: a machine that takes them one by one, and what it says of them at the end, in the rules' order.
-ghost use Rattle.std.specs.Prelude.{◌≡◌, eqb};
-ghost use Rattle.settings.specs.declared.refusal.Refusal.TheVariants.{EmptyTrace};
-ghost use Rattle.settings.specs.Checks.{refuse_if};
+ghost use Rattle.std.specs.Prelude.{◌≡◌, ◌≤◌, eqb, length};
+ghost use Rattle.std.specs.List.{prefix_len};
 ghost use Rattle.trace.specs.Trace.{read_time};
-ghost use Rattle.records.specs.StepsJudge.{marked_time, no_times, with_time, times_checked, begun, passed, ended, next, started, stepped, contents};
+ghost use Rattle.records.specs.StepsJudge.{marked_time, no_times, with_time, times_checked, first_with_fix, begun, opened, passed, ended, next, started, stepped, contents};
 
 use crate::FixRecord;
 use settings::refusal::Refusal;
@@ -18,9 +17,10 @@ pub struct Times {
     pub last: Option<f64>,
 }
 
-// What the records so far say. marks: each mark is 0 or 1. first: the first refusal of 11 to 15. far: the first of 16. trace: the open
-// trace. left: how many of its fixes are still to come.
-// Kept as it is: `lens` goes beside a `Judge` through `next`, `step` and `decide`. It is the caller's, and the same for all records; of a field each step would
+// What the records so far say. marks: each mark is 0 or 1. first: the first refusal of 12 to 15. far: the first of 16. trace: the open
+// trace, or the number of traces where none with a fix is left; empty ones are passed over, and counted in its number. left: how many of its fixes are
+// still to come.
+// Kept as it is: `lens` goes beside a `Judge` through `start`, `open_from`, `next`, `step` and `decide`. It is the caller's, and the same for all records; of a field each step would
 // have to promise that it is the same still.
 #[derive(Clone, Copy, Debug, PartialEq)]
 pub struct Judge {
@@ -94,30 +94,48 @@ impl Times {
     }
 }
 
-// 11 of trace k of n fixes.
-#[tactic(auto, unfolding(settings::proofs::Turns::turns))]
-fn check_empty(k: usize, n: usize) -> Result<(), Refusal>
-    ensures { result ≡ refuse_if (eqb n 0) (EmptyTrace k) }
+// How many empty traces stand in front.
+fn empty_in_front(lens: &[u32]) -> usize
+    ensures { result ≡ prefix_len (λ n. eqb n 0) lens.now }
 {
-    if n == 0 {
-        return Err(Refusal::EmptyTrace(k));
-    }
-    Ok(())
+    lens.iter().take_while(|&&n| n == 0).count()
+}
+
+// The first trace from k on that has a fix; where there is none, the number of traces.
+#[tactic(auto, using(crate::proofs::PassedOver::at_most), unfolding(crate::specs::StepsJudge::first_with_fix))]
+fn first_with_fix(lens: &[u32], k: usize) -> usize
+    requires { k ≤ length lens.now }
+    ensures { result ≡ first_with_fix lens.now k }
+{
+    k + empty_in_front(&lens[k..])
 }
 
 impl Judge {
-    // Trace k of n fixes is opened: 11.
-    #[tactic(auto, using(settings::proofs::Turns::first_is), unfolding(crate::specs::StepsJudge::begun))]
+    // Trace k of n fixes is opened.
+    #[tactic(auto, unfolding(crate::specs::StepsJudge::begun))]
     fn begin(self, k: usize, n: usize) -> Judge
         ensures { result ≡ begun k n self }
     {
         Judge {
-            first: self.first.and(check_empty(k, n)),
             trace: k,
             left: n,
             times: Times::none(),
             ..self
         }
+    }
+
+    // The first trace from k on that has a fix is opened. Where there is none, the machine goes to the end of the list, so that records past the sum of
+    // the lengths, which 8 refuses, do not each look through the same empty traces again: all steps together go through the list once.
+    #[tactic(auto, unfolding(crate::specs::StepsJudge::opened))]
+    fn open_from(self, k: usize, lens: &[u32]) -> Judge
+        ensures { result ≡ opened lens.now k self }
+    {
+        if k >= lens.len() {
+            return self;
+        }
+        let j = first_with_fix(lens, k);
+        let n = lens.get(j).map_or(0, |&n| n as usize);
+        self.begin(j, n)
     }
 
     // A fix of the open trace: 12, 13, and 16 apart.
@@ -149,16 +167,12 @@ impl Judge {
         }
     }
 
-    // The trace after the open one, where there is one.
-    #[tactic(auto, unfolding(crate::specs::StepsJudge::next))]
+    // The trace after the open one that has a fix.
+    #[tactic(auto, unfolding(crate::specs::StepsJudge::next, crate::specs::StepsJudge::opened))]
     fn next(self, lens: &[u32]) -> Judge
         ensures { result ≡ next lens.now self }
     {
-        let k = self.trace.saturating_add(1);
-        match lens.get(k) {
-            Some(&n) => self.begin(k, n as usize),
-            None => self,
-        }
+        self.open_from(self.trace.saturating_add(1), lens)
     }
 
     // Before the first record.
@@ -174,8 +188,7 @@ impl Judge {
             left: 0,
             times: Times::none(),
         };
-        let n = lens.first().map_or(0, |&n| n as usize);
-        blank.begin(0, n)
+        blank.open_from(0, lens)
     }
 
     // One record.
@@ -190,7 +203,7 @@ impl Judge {
         t
     }
 
-    // 17, then 11 to 15, then 16.
+    // 17, then 12 to 15, then 16.
     #[tactic(auto, unfolding(crate::specs::StepsJudge::contents, settings::proofs::Turns::turns))]
     pub fn contents(self) -> Result<(), Refusal>
         ensures { result ≡ contents self }

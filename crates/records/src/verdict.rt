@@ -1,4 +1,4 @@
-// The verdict on records, before anything is written: the settings and 7 to 10 by the lengths of the slices, 11 to 17 by what the machine says.
+// The verdict on records, before anything is written: the settings and 7 to 10 by the lengths of the slices, 12 to 17 by what the machine says.
 ghost use Rattle.std.specs.Prelude.{◌≡◌};
 ghost use Rattle.records.specs.Records.{work_floats};
 ghost use Rattle.records.specs.StepsJudge.{checks_from};
@@ -20,7 +20,7 @@ fn work_floats(n: usize, columns: usize, marks: usize, floats: usize) -> usize
     floats
 }
 
-// Whether n records are to be taken apart, or the first refusal: the settings; 7 to 10 by the lengths of the lent slices; then 11 to 17, by what the
+// Whether n records are to be taken apart, or the first refusal: the settings; 7 to 10 by the lengths of the lent slices; then 12 to 17, by what the
 // machine says of the records. The work slice of floats counts only where columns and marks, of these lengths, hold all records.
 // Kept as it is: n, columns and marks are three lengths beside `Room`, which every fit has: they are those of the three slices that the fit of records
 // alone is lent, and a struct of them would be made at the one call and taken apart here.

@@ -1,9 +1,9 @@
 // Runs a list of fits over records, for the rules' refusals and for what they leave as it was. A case: settings `r1 r2 single stay gap size resolution seed`;
-// `places`; the lengths of the slices lent, `labels columns marks floats words`; the number of traces and their lengths; four records, `x y mark time`
-// each; floats as their bits. Before the fit the labels are 7, the columns -0.0, the marks 9, the floats 0.5 and the words 9, and the model comes from a
-// fit of two places with the same settings. Prints the number and trace of the refusal, or `0 0`; then 1 where it is as it was, else 0, of the labels,
-// the model, the work slices, the columns and the marks; where columns or marks are not, the columns' first 12 and the first 4 marks. The answers
-// of the list are written by hand from docs/RULES.md.
+// `places`; the lengths of the slices lent, `records labels columns marks floats words`; the number of traces and their lengths; four records, `x y mark
+// time` each, of which the first are lent; floats as their bits. Before the fit the labels are 7, the columns -0.0, the marks 9, the floats 0.5 and the
+// words 9, and the model comes from a fit of two places with the same settings. Prints the number and trace of the refusal, or `0 0`; then 1 where it is as
+// it was, else 0, of the labels, the model, the work slices, the columns and the marks; where columns or marks are not, the columns' first 12 and the first
+// 4 marks. The answers of the list are written by hand from docs/RULES.md.
 // Kept as it is: arrays of fixed size, of which a part is lent, since the project's memory is fixed and it takes no heap.
 #![tactic(auto)]
 
@@ -20,6 +20,7 @@ use settings::config::Config;
 struct Case {
     config: Config,
     places: usize,
+    records: usize,
     labels: usize,
     columns: usize,
     marks: usize,
@@ -32,6 +33,7 @@ fn read_case(list: &mut Numbers) -> Case {
     Case {
         config: replay_case::read_settings(list),
         places: list.next_size(),
+        records: list.next_size(),
         labels: list.next_size(),
         columns: list.next_size(),
         marks: list.next_size(),
@@ -55,7 +57,7 @@ fn print_taken(columns: &[f64; 16], marks: &[u8; 8]) {
 
 // Fits and prints, with slices of the case's lengths. What they hold before is told at the head of the file.
 fn print_fit(c: Case, four: [FixRecord; 4], lens: &[u32])
-    requires { (c.labels ≤ 8) × (c.columns ≤ 16) × (c.marks ≤ 8) × (c.floats ≤ 64) × (c.words ≤ 64) }
+    requires { (c.records ≤ 4) × (c.labels ≤ 8) × (c.columns ≤ 16) × (c.marks ≤ 8) × (c.floats ≤ 64) × (c.words ≤ 64) }
 {
     let mut labels = [7i32; 8];
     let mut columns = [-0.0f64; 16];
@@ -65,7 +67,7 @@ fn print_fit(c: Case, four: [FixRecord; 4], lens: &[u32])
     let before = replay_model::fitted_model(c.config);
     let f = records::fit_records(
         before,
-        &four,
+        &four[..c.records],
         lens,
         &mut labels[..c.labels],
         c.places,
@@ -100,7 +102,13 @@ fn answer(list: &mut Numbers) {
             read_record(list),
             read_record(list),
         ];
-        if c.labels <= 8 && c.columns <= 16 && c.marks <= 8 && c.floats <= 64 && c.words <= 64 {
+        if c.records <= 4
+            && c.labels <= 8
+            && c.columns <= 16
+            && c.marks <= 8
+            && c.floats <= 64
+            && c.words <= 64
+        {
             print_fit(c, four, lens.all());
         }
     }

@@ -6,3 +6,4 @@ pub mod Gathered
 pub mod Counted
 pub mod OneTraces
 pub mod VisitReports
+pub mod EmptyTraces

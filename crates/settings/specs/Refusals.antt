@@ -1,7 +1,7 @@
 -- The numbers of docs/RULES.md, "When no labels are given", for each refusal, and the trace that it carries. Definitions only.
 use Rattle.std.specs.Prelude.{ℕ}
 use Rattle.settings.specs.declared.refusal.Refusal.{Refusal}
-use Rattle.settings.specs.declared.refusal.Refusal.TheVariants.{R1, R2, MinStayingTime, MaxTimeBetween, TimeBounds, MinSize, NoTrace, Lengths, Counts, Work, EmptyTrace}
+use Rattle.settings.specs.declared.refusal.Refusal.TheVariants.{R1, R2, MinStayingTime, MaxTimeBetween, TimeBounds, MinSize, NoTrace, Lengths, Counts, Work}
 use Rattle.settings.specs.declared.refusal.Refusal.TheVariants.{Coordinate, Timestamp, PartlyTimed, TimeOrder, CoordinateSize, TimeMark, NoStop, TooManyPlaces, NotFitted, Output, Text, MinSpatialResolution, ResolutionBounds}
 
 -- The first column of the table: in its words,
@@ -16,7 +16,7 @@ number_of NoTrace = 7  -- no trace
 number_of Lengths = 8  -- fix slices or label slice differ in length, or trace lengths don't sum to it
 number_of Counts = 9  -- over 256 traces or 65,536 fixes; `places` 0 or over 512
 number_of Work = 10  -- work slice short
-number_of (EmptyTrace k) = 11  -- empty trace
+-- 11 is missing: it was that of an empty trace, which now means that nobody walked and is taken as it is (proofs/RefusalNumbers.antt: no refusal has it).
 number_of (Coordinate k) = 12  -- coordinate not finite
 number_of (Timestamp k) = 13  -- timestamp not finite
 number_of (PartlyTimed k) = 14  -- some fixes timed, some not
@@ -31,7 +31,7 @@ number_of Text = 22  -- text not in the program's form
 number_of MinSpatialResolution = 23  -- `min_spatial_resolution` not finite or below zero
 number_of ResolutionBounds = 24  -- `min_spatial_resolution` between zero and 2^-10, both excluded, or above 10^6
 
--- The trace number: 0 unless 11 to 16.
+-- The trace number: 0 unless 12 to 16. It counts the empty traces.
 abbrev pub trace_of : Refusal → ℕ
 trace_of R1 = 0
 trace_of R2 = 0
@@ -43,7 +43,6 @@ trace_of NoTrace = 0
 trace_of Lengths = 0
 trace_of Counts = 0
 trace_of Work = 0
-trace_of (EmptyTrace k) = k
 trace_of (Coordinate k) = k
 trace_of (Timestamp k) = k
 trace_of (PartlyTimed k) = k

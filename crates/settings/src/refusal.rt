@@ -1,4 +1,4 @@
-// Why no labels are given: a case for each cause, in the order of the rules' numbers.
+// Why no labels are given: a case for each cause, in the order of the rules' numbers. 11 has none: an empty trace is refused no more.
 ghost use Rattle.std.specs.Prelude.{◌≡◌};
 ghost use Rattle.settings.specs.Refusals.{number_of, trace_of};
 
@@ -15,7 +15,6 @@ pub enum Refusal {
     Lengths,
     Counts,
     Work,
-    EmptyTrace(usize),
     Coordinate(usize),
     Timestamp(usize),
     PartlyTimed(usize),
@@ -48,7 +47,6 @@ pub fn number(e: Refusal) -> u32
         Refusal::Lengths => 8,
         Refusal::Counts => 9,
         Refusal::Work => 10,
-        Refusal::EmptyTrace(_) => 11,
         Refusal::Coordinate(_) => 12,
         Refusal::Timestamp(_) => 13,
         Refusal::PartlyTimed(_) => 14,
@@ -71,8 +69,7 @@ pub fn trace(e: Refusal) -> usize
     ensures { result ≡ trace_of e }
 {
     match e {
-        Refusal::EmptyTrace(k)
-        | Refusal::Coordinate(k)
+        Refusal::Coordinate(k)
         | Refusal::Timestamp(k)
         | Refusal::PartlyTimed(k)
         | Refusal::TimeOrder(k)

@@ -12,3 +12,4 @@ pub mod Reading
 pub mod Columns
 pub mod Lengths
 pub mod Pieces
+pub mod NoEmptyTrace

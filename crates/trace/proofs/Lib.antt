@@ -3,3 +3,4 @@ pub mod Parts
 pub mod Placed
 pub mod Coming
 pub mod WithoutEmpty
+pub mod EmptyFront

@@ -17,6 +17,11 @@ pub total_drop : (ns : List ℕ) (k : ℕ) → k < length ns → total (drop k n
 unfolding total
 total_drop ns k h = rw (add-one k, drop-cons ns k 0 h)
 
+pub total_some : (ns : List ℕ) → 0 < total ns → 0 < length ns
+unfolding total
+total_some [] h = absurd (omega arith)
+total_some (n ∷ ns) h = omega arith
+
 -- ---- where a trace lies
 
 pub offset_within : (ns : List ℕ) (k : ℕ) → k < length ns → total (take k ns) + get_or ns k 0 ≤ total ns

@@ -49,6 +49,10 @@ out_all (n ∷ ns) e =
 
 -- ---- numbers
 
+pub counted_first : (lens : List ℕ) → counted_anew lens 0 ≡ 0
+unfolding counted_anew without_empty
+counted_first lens = refl
+
 out_append : (ms ns : List ℕ) → without_empty (ms ++ ns) ≡ without_empty ms ++ without_empty ns
 out_append [] ns = unfold without_empty in refl
 out_append (m ∷ ms) ns = go (eqb m 0) refl (out_append ms ns)
