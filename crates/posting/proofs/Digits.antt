@@ -7,11 +7,10 @@ use native.Mathlib.Numerals.{unary_clauses}
 use native.Mathlib.Omega.{arith}
 use borrow.Author.Tests.{ltb-true, ltb-false, ne_eqb}
 use lib.Dec.{ltb}
-use lib.ListN.{length, length-append, replicate}
+use lib.ListN.{length, length-append, replicate, take, drop}
 use Rattle.text.specs.Bytes.{space}
 use Rattle.print.specs.Lines.{digits, decimal}
 use Rattle.print.specs.Steps.{Out, pushes}
-use Rattle.print.proofs.Pushes.{and_then}
 -- Named so that the examples are checked before these lemmas.
 use Rattle.posting.specs.Examples
 use Rattle.posting.specs.Sheet.{right_aligned}
@@ -86,20 +85,34 @@ aligned_length w n h k = rw (aligned w n h k, length-append (front_columns w (n 
 
 -- ---- as the code writes it
 
-pub front_none : (o : Out) (w n : ℕ) → w ≡ 0 → o ≡ pushes o (front_columns w n)
-unfolding front_columns pushes
-front_none o w n h = rw h
+-- Five columns, n being the number up to the last of them.
+five_columns : ℕ → List ℕ
+five_columns n = front_digit (n / 10000) ∷ front_digit (n / 1000) ∷ front_digit (n / 100) ∷ front_digit (n / 10) ∷ last_digit n ∷ []
 
-pub front_more : (o o₁ o₂ : Out) (w n : ℕ) → (w ≡ 0 → ⊥) → o₁ ≡ pushes o (front_columns (w - 1) (n / 10)) → o₂ ≡ pushes o₁ (front_digit n ∷ []) → o₂ ≡ pushes o (front_columns w n)
-unfolding front_columns
-front_more o o₁ o₂ zero n z p q = absurd (z refl)
-front_more o o₁ o₂ (suc w) n z p q =
-    let e : suc w - 1 ≡ w = omega arith in
-    and_then o o₁ o₂ (front_columns w (n / 10)) (front_digit n ∷ []) (rw e at p) q
+hundreds : (n : ℕ) → n / 10 / 10 ≡ n / 100
+hundreds n = omega arith
 
-pub number_put : (o o₁ o₂ : Out) (w n : ℕ) → 1 ≤ w → w ≤ 20 → n < 10 ^ w → o₁ ≡ pushes o (front_columns (w - 1) (n / 10)) → o₂ ≡ pushes o₁ (last_digit n ∷ [])
-    → o₂ ≡ pushes o (right_aligned w (decimal n))
-number_put o o₁ o₂ zero n a b h p q = absurd (omega arith)
-number_put o o₁ o₂ (suc w) n a b h p q =
-    let e : suc w - 1 ≡ w = omega arith in
-    rw (aligned w n h (omega arith)) (and_then o o₁ o₂ (front_columns w (n / 10)) (last_digit n ∷ []) (rw e at p) q)
+thousands : (n : ℕ) → n / 100 / 10 ≡ n / 1000
+thousands n = omega arith
+
+ten_thousands : (n : ℕ) → n / 1000 / 10 ≡ n / 10000
+ten_thousands n = omega arith
+
+-- The last of them are the columns of a number, one by one.
+last_of_five : (w n : ℕ) → w ≤ 4 → front_columns w (n / 10) ++ (last_digit n ∷ []) ≡ take (5 - (4 - w)) (drop (4 - w) (five_columns n))
+unfolding front_columns five_columns
+last_of_five zero n k = refl
+last_of_five (suc zero) n k = refl
+last_of_five (suc (suc zero)) n k = rw (hundreds n) refl
+last_of_five (suc (suc (suc zero))) n k = rw (hundreds n, thousands n) refl
+last_of_five (suc (suc (suc (suc zero)))) n k = rw (hundreds n, thousands n, ten_thousands n) refl
+last_of_five (suc (suc (suc (suc (suc w))))) n k = absurd (omega arith)
+
+pub last_columns : (o o₁ : Out) (w n : ℕ) → 1 ≤ w → w ≤ 5 → n < 10 ^ w
+    → o₁ ≡ pushes o (take (5 - (5 - w)) (drop (5 - w) (front_digit (n / 10000) ∷ front_digit (n / 1000) ∷ front_digit (n / 100) ∷ front_digit (n / 10) ∷ last_digit n ∷ [])))
+    → o₁ ≡ pushes o (right_aligned w (decimal n))
+unfolding five_columns
+last_columns o o₁ zero n a b h p = absurd (omega arith)
+last_columns o o₁ (suc w) n a b h p =
+    let e : 5 - suc w ≡ 4 - w = omega arith in
+    rw (aligned w n h (omega arith), last_of_five w n (omega arith)) (rw e at p)

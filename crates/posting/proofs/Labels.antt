@@ -1,16 +1,14 @@
 -- A label in its three columns.
 use mathlib.Core.Path.{◌≡◌, refl}
-use mathlib.Core.Bool.{true, ◌&&◌}
+use mathlib.Core.Bool.{true, false, ◌&&◌}
 use mathlib.Core.List.{[], ◌∷◌}
 use Prim.Native.Nat.{zero, suc, ◌<◌}
 use native.Mathlib.Omega.{arith}
 use borrow.Author.Tests.{leb-true, eqb-true, lt-leb, ne_eqb}
 use lib.IntN.{ℤ, pos, negsuc, nat_abs}
 use lib.Signed.{le_z}
-use mir.Syntax.{w32}
-use mir.Val.{SFits}
-use Rattle.std.specs.Int.{FitsUnsignedBits}
 use Rattle.print.specs.Lines.{label_text}
+use Rattle.print.specs.Steps.{is_number}
 use Rattle.print.proofs.LabelLines.{none_text}
 use Rattle.posting.specs.Sheet.{right_aligned}
 use Rattle.posting.specs.Posted.{in_column}
@@ -20,9 +18,9 @@ unfolding in_column
 few_digits (pos m) h = let k = leb-true m 511 h in omega arith
 few_digits (negsuc m) h = let z : m ≡ 0 = eqb-true m 0 h in omega arith
 
-pub none_column : (l : ℤ) → SFits w32 l → (FitsUnsignedBits 64 l → ⊥) → right_aligned 3 (label_text l) ≡ 32 ∷ 45 ∷ 49 ∷ []
+pub none_column : (l : ℤ) → is_number l ≡ false → right_aligned 3 (label_text l) ≡ 32 ∷ 45 ∷ 49 ∷ []
 unfolding right_aligned
-none_column l s f = rw (none_text l s f) refl
+none_column l h = rw (none_text l h) refl
 
 -- ---- the test of the code
 

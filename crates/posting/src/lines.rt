@@ -1,4 +1,4 @@
-// The lines of the sheet, trace by trace, and the check of the labels.
+// The lines of the sheet, trace by trace, and the check of the labels. What writes is inlined: columns.rt says why.
 ghost use Rattle.std.specs.Prelude.{◌≡◌};
 ghost use mathlib.Core.List.{flatten};
 ghost use Rattle.print.specs.Steps.{Wrote};
@@ -23,6 +23,7 @@ pub fn all_in_column(labels: &[i32]) -> bool
 }
 
 // The lines of trace t, whose fixes have these labels; i fixes stand on the sheet before them.
+#[inline(always)]
 #[tactic(auto, using(crate::proofs::LinesFrom::trace_next, crate::proofs::LinesFrom::trace_done))]
 fn put_trace(out: &mut Output, i: usize, t: u64, labels: &[i32])
     requires { TraceWithin i t labels.now }
@@ -38,6 +39,7 @@ fn put_trace(out: &mut Output, i: usize, t: u64, labels: &[i32])
 // many fixes stand before the trace, for the headings. One walk over a closure that writes a trace would have to ask of each call what only this one needs
 // (`TraceWithin i t part`), and to say what was written as two kinds of lines, `lines` there and `lines_from` here. An iterator of the parts of the labels,
 // as `trace::traces::Traces` is of the traces, would be some forty lines of code and a file of laws, for two loops of three and four lines.
+#[inline(always)]
 #[tactic(auto, using(crate::proofs::LinesFrom::trace_fits, crate::proofs::LinesFrom::traces_left, crate::proofs::LinesFrom::sheet_next, crate::proofs::LinesFrom::sheet_done, crate::proofs::Within::first_within, crate::proofs::Within::rest_within))]
 pub fn put_lines(out: &mut Output, lens: &[u32], labels: &[i32])
     requires { SheetWithin lens.now labels.now }

@@ -1,34 +1,31 @@
 -- Labels and their lines, as the loops write them.
-use mathlib.Core.Path.{◌≡◌, refl}
+use mathlib.Core.Path.{◌≡◌, refl, sym}
+use mathlib.Core.Bool.{true, false, false≢true}
 use mathlib.Core.List.{List, [], ◌∷◌}
 use Prim.Native.Nat.{ℕ, suc, ◌+◌, ◌≤◌, ◌<◌, min}
 use native.Mathlib.Numerals.{add-one}
-use native.Mathlib.Omega.{arith}
 use lib.ListN.{length, get_or, take, drop, drop_of_length-le}
 use lib.Seq.{drop-cons}
 use lib.IntN.{ℤ, pos, negsuc, nat_abs}
-use Rattle.std.specs.Int.{FitsUnsignedBits}
 use Rattle.std.proofs.lemmas.List.{take_min, drop_min}
-use mir.Syntax.{w32}
-use mir.Val.{SFits}
 use Rattle.settings.specs.declared.refusal.Refusal.{Refusal}
 use Rattle.settings.specs.Refusals.{number_of, trace_of}
 use Rattle.text.specs.Bytes.{line_feed, space}
 use Rattle.print.specs.Lines.{decimal, label_text, line, trace_lines, lines, label_names, labels_text, refused_names, refusal_text}
-use Rattle.print.specs.Steps.{Out, pushes}
+use Rattle.print.specs.Steps.{Out, pushes, is_number}
 use Rattle.print.proofs.Pushes.{pushes_append}
 
 -- ---- labels
 
-pub number_text : (l : ℤ) → FitsUnsignedBits 64 l → label_text l ≡ decimal (nat_abs l)
-unfolding label_text
-number_text (pos m) f = refl
-number_text (negsuc m) f = absurd f
+pub number_text : (l : ℤ) → is_number l ≡ true → label_text l ≡ decimal (nat_abs l)
+unfolding is_number label_text
+number_text (pos m) h = refl
+number_text (negsuc m) h = absurd (false≢true h)
 
-pub none_text : (l : ℤ) → SFits w32 l → (FitsUnsignedBits 64 l → ⊥) → label_text l ≡ 45 ∷ 49 ∷ []
-unfolding label_text
-none_text (pos m) s f = absurd (f (omega (arith, s.sfits)))
-none_text (negsuc m) s f = refl
+pub none_text : (l : ℤ) → is_number l ≡ false → label_text l ≡ 45 ∷ 49 ∷ []
+unfolding is_number label_text
+none_text (pos m) h = absurd (false≢true (sym h))
+none_text (negsuc m) h = refl
 
 -- ---- a line
 

@@ -1,6 +1,6 @@
 -- Serves the contracts of this crate's own functions; no public contract reaches it.
 -- A text written byte by byte, as the code does.
-use Rattle.std.specs.Prelude.{◌≡◌, ℕ, ◌+◌, cond, List, [], ◌∷◌, ltb, length, set}
+use Rattle.std.specs.Prelude.{◌≡◌, ℕ, ◌+◌, Bool, true, false, cond, List, [], ◌∷◌, ltb, ℤ, pos, negsuc, length, set}
 use Rattle.print.specs.declared.bytes.Output.{Output}
 
 -- A slice, and how many of its bytes are written.
@@ -19,6 +19,11 @@ push o b = cond (ltb o.used (length o.bytes)) (out (set o.bytes o.used b) (o.use
 unfoldable pub pushes : Out → List ℕ → Out
 pushes o [] = o
 pushes o (b ∷ bs) = pushes (push o b) bs
+
+-- A label that is printed as a number, and not as -1.
+unfoldable pub is_number : ℤ → Bool
+is_number (pos n) = true
+is_number (negsuc n) = false
 
 -- What such a slice holds in the code.
 abbrev pub held : Output → Out

@@ -14,6 +14,8 @@ pub struct Output<'a> {
 }
 
 impl Output<'_> {
+    // This and `push_all` are inlined, so that `used` can stay in a register where the Output is made: crate `posting` writes its sheet so.
+    #[inline(always)]
     #[tactic(auto, unfolding(crate::specs::Steps::push, crate::specs::Steps::pushes))]
     pub fn push(&mut self, b: u8)
         ensures { Wrote self.old self.new (b ∷ []) }
@@ -24,6 +26,7 @@ impl Output<'_> {
         }
     }
 
+    #[inline(always)]
     #[tactic(auto, using(crate::proofs::Pushes::first_next), unfolding(crate::specs::Steps::pushes))]
     pub fn push_all(&mut self, text: &[u8])
         ensures { Wrote self.old self.new text.now }

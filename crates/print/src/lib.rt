@@ -8,7 +8,7 @@ use crate::bytes::Output;
 use settings::refusal::Refusal;
 
 pub mod bytes;
-mod lines;
+pub mod lines;
 
 // The labels of the fixes of all traces; `lens` are the lengths of the traces. Hands back how many bytes are written.
 #[tactic(auto, using(crate::proofs::LabelLines::labels_pushed, crate::proofs::Room::into_pushed, crate::proofs::Room::count_pushed), unfolding(crate::specs::Lines::label_names))]

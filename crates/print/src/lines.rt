@@ -1,8 +1,27 @@
 // The lines of labels, written into a slice one behind the other.
+ghost use Rattle.std.specs.Prelude.{◌≡◌, true, nat_abs};
 ghost use Rattle.print.specs.Lines.{label_text, line as Lines·line, trace_lines, lines as Lines·lines};
-ghost use Rattle.print.specs.Steps.{Wrote};
+ghost use Rattle.print.specs.Steps.{Wrote, is_number};
 
 use crate::bytes::Output;
+
+// Whether a label is written as a number, and not as -1.
+// Kept as it is: this and `number` by hand, where `u64::try_from` says both in one: they are public, and crate `posting` writes labels by them too.
+#[tactic(auto, unfolding(crate::specs::Steps::is_number))]
+pub fn is_number(l: i32) -> bool
+    ensures { result ≡ is_number l }
+{
+    l >= 0
+}
+
+// The number of such a label.
+#[tactic(auto, unfolding(crate::specs::Steps::is_number))]
+pub fn number(l: i32) -> u64
+    requires { is_number l ≡ true }
+    ensures { result ≡ nat_abs l }
+{
+    l as u64
+}
 
 impl Output<'_> {
     // A label, or -1.
@@ -10,9 +29,10 @@ impl Output<'_> {
     fn put_label(&mut self, l: i32)
         ensures { Wrote self.old self.new (label_text l) }
     {
-        match u64::try_from(l) {
-            Ok(n) => self.put_number(n),
-            Err(_) => self.push_all(b"-1"),
+        if is_number(l) {
+            self.put_number(number(l));
+        } else {
+            self.push_all(b"-1");
         }
     }
 
