@@ -32,18 +32,23 @@ module _ (n : Network) (k : Grouping) (s : Run) {l : Float} (len : l ≡ codelen
       let c : lt (codelength n s.state.partition) k.codelength ≡ false = rw (sym len) t in
       rw c
 
--- one of the three trials more, after i of them
-pub trials_on : (n : Network) (i x : ℕ) (k : Grouping) {x' : ℕ} {k' : Grouping} → i < 3 → x' ≡ (optimize_partition n x).rng → k' ≡ keep n k (optimize_partition n x) → trials n (3 - (i + 1)) x' k' ≡ trials n (3 - i) x k
+-- the first of the three trials
+pub trials_first : (n : Network) (x : ℕ) (k : Grouping) {x' : ℕ} {k' : Grouping} → x' ≡ (optimize_partition n x).rng → k' ≡ keep n k (optimize_partition n x) → trials n 2 x' k' ≡ trials n 3 x k
 unfolding trials
-trials_on n i x k h p q =
-    let m : 3 - i ≡ suc (3 - (i + 1)) = omega arith in
-    rw (p, q, m)
+trials_first n x k p q = rw (p, q)
 
-pub trials_end : (n : Network) (i x : ℕ) (k : Grouping) → 3 ≤ i → k ≡ trials n (3 - i) x k
+-- one of m trials more, after i of them
+pub trials_on : (n : Network) (m i x : ℕ) (k : Grouping) {x' : ℕ} {k' : Grouping} → i < m → x' ≡ (optimize_partition n x).rng → k' ≡ keep n k (optimize_partition n x) → trials n (m - (i + 1)) x' k' ≡ trials n (m - i) x k
 unfolding trials
-trials_end n i x k h =
-    let m : 3 - i ≡ 0 = omega arith in
-    rw m
+trials_on n m i x k h p q =
+    let s : m - i ≡ suc (m - (i + 1)) = omega arith in
+    rw (p, q, s)
+
+pub trials_end : (n : Network) (m i x : ℕ) (k : Grouping) → m ≤ i → k ≡ trials n (m - i) x k
+unfolding trials
+trials_end n m i x k h =
+    let s : m - i ≡ 0 = omega arith in
+    rw s
 
 -- ---- with and without links
 pub kept_links : (n : Network) (seed : ℕ) {k : Grouping} → lt zero64 n.d ≡ true → k ≡ best_of_three n (seeded seed) → k ≡ kept_grouping n seed

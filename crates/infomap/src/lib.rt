@@ -9,7 +9,7 @@ ghost use Rattle.optimize.specs.Steps.{run_of};
 ghost use Rattle.infomap.specs.Infomap.{mark_of, trial_mark, keep, best_of_three, kept_grouping, relabel_dense, run_infomap};
 ghost use Rattle.infomap.specs.Steps.{grouping_of};
 
-use map_state::{Network, WeightTable};
+use map_state::{MapState, Network, WeightTable};
 use optimize::RunState;
 
 // The kept trial's last round moved nothing; it still did, as round 100; no trial was kept.
@@ -37,18 +37,18 @@ fn trial_mark(moved: bool) -> Mark
     if moved { Mark::Spent } else { Mark::Rest }
 }
 
-// Keeps a trial, if its codelength is below that of k: its groups are left in `best`.
+// Keeps a trial that has left its groups in the state s, if its codelength is below that of k: they are left in `best`.
 // Kept as it is: `net` and `best` go together through three functions, each of which asks that `best` has the network's nodes. A struct of the two would have
 // to promise, in each, that it holds the same network and the same slice afterwards, which parameters of their own say by themselves.
 #[tactic(auto, using(crate::proofs::Trials::keep_yes, crate::proofs::Trials::keep_no))]
-fn keep(net: &Network, t: &mut RunState, best: &mut [u32], k: Kept) -> Kept
-    requires { (Fits net.now t.old.state) × (length best.old ≡ length t.old.state.partition) }
-    ensures { (grouping_of best.new result ≡ keep net.now (grouping_of best.old k) (run_of t.old))
-        × (t.new.state.partition ≡ t.old.state.partition) }
+fn keep(net: &Network, s: &mut MapState, t: RunState, best: &mut [u32], k: Kept) -> Kept
+    requires { (Fits net.now s.old) × (length best.old ≡ length s.old.partition) }
+    ensures { (grouping_of best.new result ≡ keep net.now (grouping_of best.old k) (run_of s.old t))
+        × (s.new.partition ≡ s.old.partition) }
 {
-    let l = codelength::map_equation(net, &mut t.state);
+    let l = codelength::map_equation(net, s);
     if l < k.codelength {
-        best.copy_from_slice(t.state.partition());
+        best.copy_from_slice(s.partition());
         return Kept {
             mark: trial_mark(t.moved),
             rounds: t.rounds,
@@ -58,8 +58,8 @@ fn keep(net: &Network, t: &mut RunState, best: &mut [u32], k: Kept) -> Kept
     k
 }
 
-// Three trials from the generator's state `rng`: the kept grouping is left in `best`.
-#[tactic(auto, using(rng::proofs::Counts::counted, optimize::proofs::Ends::trial_length, crate::proofs::Trials::trials_on, crate::proofs::Trials::trials_end), unfolding(crate::specs::Infomap::best_of_three, crate::specs::Infomap::mark_of))]
+// Three trials from the generator's state `rng`: the kept grouping is left in `best`. The second and the third run in the state of the first.
+#[tactic(auto, using(rng::proofs::Counts::counted, optimize::proofs::Ends::trial_length, crate::proofs::Trials::trials_first, crate::proofs::Trials::trials_on, crate::proofs::Trials::trials_end), unfolding(crate::specs::Infomap::best_of_three, crate::specs::Infomap::mark_of))]
 fn best_of_three(net: &Network, best: &mut [u32], rng: u64) -> Kept
     requires { length best.old ≡ length net.now.strength }
     ensures { grouping_of best.new result ≡ best_of_three net.now rng }
@@ -67,16 +67,18 @@ fn best_of_three(net: &Network, best: &mut [u32], rng: u64) -> Kept
     let n = net.strength().len();
     let mut order = [0; 512];
     rng::fill(best);
-    let mut k = Kept {
+    let none = Kept {
         mark: Mark::NoneKept,
         rounds: 0,
         codelength: f64::INFINITY,
     };
-    let mut x = rng;
-    for _ in 0..3u32 {
-        let mut t = optimize::optimize_partition(net, &mut order[..n], x);
+    let mut first = optimize::optimize_partition(net, &mut order[..n], rng);
+    let mut x = first.run.rng;
+    let mut k = keep(net, &mut first.state, first.run, best, none);
+    for _ in 0..2u32 {
+        let t = optimize::trial_in(net, &mut first.state, &mut order[..n], x);
         x = t.rng;
-        k = keep(net, &mut t, best, k);
+        k = keep(net, &mut first.state, t, best, k);
     }
     k
 }

@@ -29,30 +29,31 @@ use Rattle.cluster.proofs.FixLabels.{found_labels}
 use Rattle.infostop.specs.Fit.{Fitted, Outcome, refused, fitted, unless_none, given_by, from_places}
 use Rattle.infostop.specs.declared.model.Infostop.{Infostop}
 use Rattle.infostop.specs.declared.answer.Labelled.{Labelled}
+use Rattle.infostop.specs.declared.answer.Fit.{Fit}
 use Rattle.infostop.specs.declared.steps.PlaceArrays.{PlaceArrays}
 use Rattle.infostop.specs.Models.{fitted_model, model_after}
 use Rattle.infostop.specs.Ends.{refused_with, labelled_by, told, told_by, labels_after, Ended}
 use Rattle.stay.specs.StepsAll.{medians_in}
 use Rattle.stay.proofs.MediansRead.{medians_front}
-use Rattle.infostop.specs.Steps.{Space, in_arrays, places_found, from_clustering, outcome_in, Grouped, fit_from, places_outcome}
+use Rattle.infostop.specs.Steps.{Space, in_arrays, places_found, from_clustering, outcome_in, Grouped, handed_back, places_outcome}
 use Rattle.infostop.proofs.Arrays.{array, array_part, array_whole}
 use Rattle.infostop.proofs.Placed.{found_some, found_none, count_few, front_is}
 
 -- A refusal that is the outcome.
-pub refused_ends : (m : Infostop) (old : List ℤ) (o : Outcome) (e : Refusal) → o ≡ refused e → Ended m old o (fit_from m (Err e)) old
+pub refused_ends : (m : Infostop) (old : List ℤ) (o : Outcome) (e : Refusal) → o ≡ refused e → Ended m old o (handed_back (Err e) m) old
 refused_ends m old o e q = record { answer = ap told (sym q); model = ap (model_after m) (sym q); fixes = ap (labels_after old) (sym q) }
 
 pub no_kept : {A : Type 0} (m : RunMark) (r n t : ℕ) → labelled_by m r ≡ refused_with n t → A
 no_kept m r n t q = absurd (let z : ◌≡◌ {A = ℕ} 0 1 = cc in omega arith)
 
--- An answer with the model beside what is labelled.
-abbrev pub with_model : Infostop → Result Labelled Refusal → Result (Labelled × Infostop) Refusal
-with_model next (Ok k) = Ok (k, next)
-with_model next (Err e) = Err e
+-- An answer with the next model, a refusal with the old one.
+abbrev pub with_model : Infostop → Infostop → Result Labelled Refusal → Fit
+with_model m next (Ok k) = handed_back (Ok k) next
+with_model m next (Err e) = handed_back (Err e) m
 
 -- An answer that tells the outcome, with the model that fits it.
 ended : (m next : Infostop) (old labels : List ℤ) (o : Outcome) (a : Result Labelled Refusal) → told_by a ≡ told o → ((f : Fitted) → o ≡ fitted f → next ≡ fitted_model m.config f) → labels ≡ labels_after old o
-    → Ended m old o (fit_from m (with_model next a)) labels
+    → Ended m old o (with_model m next a) labels
 ended m next old labels (refused e) (Ok k) q h l = no_kept _ _ _ _ q
 ended m next old labels (refused e) (Err e') q h l = record { answer = q; model = refl; fixes = l }
 ended m next old labels (fitted f) (Ok k) q h l = record { answer = q; model = h f refl; fixes = l }
@@ -106,7 +107,7 @@ module _ (m : Infostop) (cap k : ℕ) (floats : List Float) (words old : List �
     abbrev next : List ℤ → Infostop
     next l = record { config = c; xs = (in_arrays ps).xs; ys = (in_arrays ps).ys; labels = overlay l (array (negsuc 0)); count = length ps; fitted = true }
 
-    pub placed_end : Ended m old (places_outcome c cap ts) (fit_from m (with_model (next pl) a)) labels
+    pub placed_end : Ended m old (places_outcome c cap ts) (with_model m (next pl) a) labels
     unfolding given_by
     placed_end =
         ended m (next pl) old labels (places_outcome c cap ts) a (g.answer ∙ ap told outcomes)
@@ -126,7 +127,7 @@ module _ (m : Infostop) (cap k : ℕ) (floats : List Float) (words old : List �
   found_is : places ms ≡ qs
   found_is = ap places (are ∙ medians_found m cap k floats words old ts space.few_stays room f)
 
-  pub too_many_end : (e : Refusal) → Err e ≡ places_found cap (places ms) → Ended m old (places_outcome m.config cap ts) (fit_from m (Err e)) old
+  pub too_many_end : (e : Refusal) → Err e ≡ places_found cap (places ms) → Ended m old (places_outcome m.config cap ts) (handed_back (Err e) m) old
   too_many_end e h =
       let q = found_none cap (places ms) e h in
       refused_ends m old (places_outcome m.config cap ts) e
@@ -138,15 +139,15 @@ module _ (m : Infostop) (cap k : ℕ) (floats : List Float) (words old : List �
     arrays_are = (found_some cap (places ms) a e).1 ∙ ap in_arrays found_is
 
     end : Ended m old (places_outcome m.config cap ts)
-        (fit_from m (with_model (record { config = m.config; xs = a.xs; ys = a.ys; labels = overlay pl (array (negsuc 0)); count = a.count; fitted = true }) r)) labels
+        (with_model m (record { config = m.config; xs = a.xs; ys = a.ys; labels = overlay pl (array (negsuc 0)); count = a.count; fitted = true }) r) labels
     end =
         subst
         (λ (z : PlaceArrays). Ended m old (places_outcome m.config cap ts)
-        (fit_from m (with_model (record { config = m.config; xs = z.xs; ys = z.ys; labels = overlay pl (array (negsuc 0)); count = z.count; fitted = true }) r)) labels) (sym arrays_are)
+        (with_model m (record { config = m.config; xs = z.xs; ys = z.ys; labels = overlay pl (array (negsuc 0)); count = z.count; fitted = true }) r) labels) (sym arrays_are)
         (placed_end m cap k floats words old ts space.few_stays room f (subst (λ (z : List Place). length z ≤ cap) found_is (found_some cap (places ms) a e).0) r pl labels
         (subst (λ (z : List Place). Grouped m.config k z floats words old r pl labels) (front_is a qs arrays_are) g))
 
     -- s is the answer, as far as it is looked at.
     pub medians_end : (s : Result Labelled Refusal) → r ≡ s → Ended m old (places_outcome m.config cap ts)
-        (fit_from m (with_model (record { config = m.config; xs = a.xs; ys = a.ys; labels = pl ++ drop a.count (array (negsuc 0)); count = a.count; fitted = true }) s)) labels
+        (with_model m (record { config = m.config; xs = a.xs; ys = a.ys; labels = pl ++ drop a.count (array (negsuc 0)); count = a.count; fitted = true }) s) labels
     medians_end s q = rw (← q, array_whole (negsuc 0) pl a.count (long ∙ array_part (negsuc 0) a.count (count_few cap (places ms) a few e))) end

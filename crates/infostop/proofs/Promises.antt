@@ -26,7 +26,7 @@ use Rattle.infostop.proofs.Accepted.{fit_demand3}
 use Rattle.infostop.specs.declared.model.Infostop.{Infostop}
 use Rattle.infostop.specs.declared.answer.Fit.{Fit}
 use Rattle.infostop.specs.Ends.{labelled_by, told_by, Ended, keeps_work, WorkEnds, HoldsDemand3, Promised}
-use Rattle.infostop.specs.Steps.{fit_from}
+use Rattle.infostop.specs.Steps.{handed_back}
 use Rattle.infostop.proofs.Ending.{no_kept, refused_ends}
 
 -- ---- the fit by its checks
@@ -114,7 +114,7 @@ module _ (m : Infostop) (xs ys times : List Float) (marks lens : List ℕ) (old 
   promised r labels floats' words' x w = record { ended = x; work = w; demand3 = ended_demand3 m xs ys times marks lens old cap (length floats) (length words) r labels x }
 
   -- A refusal by the checks.
-  pub promised_refused : (e : Refusal) → whole ≡ refused e → Holds (fit_from m (Err e)) old floats words
+  pub promised_refused : (e : Refusal) → whole ≡ refused e → Holds (handed_back (Err e) m) old floats words
   promised_refused e q = promised _ _ _ _ (refused_ends m old whole e q) (λ z. (refl, refl))
 
   -- What comes after them.

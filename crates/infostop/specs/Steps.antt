@@ -71,10 +71,9 @@ module _ (c : Config) (k : ℕ) (ps : List Place) (floats : List Float) (words o
     pub answer : told_by a ≡ told outcome_in
     pub of_fixes : labels ≡ labels_after old outcome_in
 
--- What a fit with the model m hands back: what is labelled and the next model, or the refusal and m.
-abbrev pub fit_from : Infostop → Result (Labelled × Infostop) Refusal → Fit
-fit_from m (Ok p) = record { answer = Ok p.0; model = p.1 }
-fit_from m (Err e) = record { answer = Err e; model = m }
+-- What a fit hands back, by its answer and the model that it leaves.
+abbrev pub handed_back : Result Labelled Refusal → Infostop → Fit
+handed_back a m = record { answer = a; model = m }
 
 -- The fit from the distinct medians of the traces on: 19, then the grouping.
 abbrev pub places_outcome : Config → ℕ → List (List Fix) → Outcome
@@ -85,11 +84,11 @@ abbrev pub FixLabelsAre : List Point → List Place → List ℤ → List ℤ �
 FixLabelsAre ms ps pl words n labels = labels ≡ event_labels (stay_labels ps pl ms) (take n words)
 
 -- How a fit ends whose stays are found: their medians and numbers stand in the work slices.
-abbrev pub EndsFromStays : Infostop → ℕ → ℕ → List Float → List ℤ → List ℤ → Result (Labelled × Infostop) Refusal → List ℤ → Type 0
+abbrev pub EndsFromStays : Infostop → ℕ → ℕ → List Float → List ℤ → List ℤ → Fit → List ℤ → Type 0
 EndsFromStays m k cap floats words old r labels =
     (ts : List (List Fix)) → AllFound m.config ts (length old) (take (4 * length old) floats) (take (length old) words) k
-    → Ended m old (places_outcome m.config cap ts) (fit_from m r) labels
+    → Ended m old (places_outcome m.config cap ts) r labels
 
 -- How a fit of tracks ends that have passed the checks.
-abbrev pub EndsFromTracks : Infostop → List (List Fix) → List ℤ → ℕ → Result (Labelled × Infostop) Refusal → List ℤ → Type 0
-EndsFromTracks m ts old cap r labels = Ended m old (fit_traces euclidean m.config cap ts) (fit_from m r) labels
+abbrev pub EndsFromTracks : Infostop → List (List Fix) → List ℤ → ℕ → Fit → List ℤ → Type 0
+EndsFromTracks m ts old cap r labels = Ended m old (fit_traces euclidean m.config cap ts) r labels

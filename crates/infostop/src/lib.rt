@@ -5,7 +5,7 @@ ghost use Rattle.trace.specs.Given.{traces_of};
 ghost use Rattle.infostop.specs.Fit.{fit_of};
 ghost use Rattle.std.specs.Prelude.{length};
 ghost use Rattle.infostop.specs.Ends.{Promised};
-ghost use Rattle.infostop.specs.Steps.{fit_from};
+ghost use Rattle.infostop.specs.Steps.{handed_back};
 
 use crate::answer::{Fit, Labelled};
 use crate::model::Infostop;
@@ -18,20 +18,21 @@ pub mod model;
 mod steps;
 
 impl Infostop {
-    // What is labelled and the next model: the checks, then the fit.
+    // The checks, then the fit, which an accepted one puts into the model. The model is changed in place, since it has 10 KB: handed back in a
+    // `Result` it would be copied at each step on the way, of a refusal too.
     fn fit_tracks(
-        &self,
+        &mut self,
         tracks: Tracks,
         labels: &mut [i32],
         places: usize,
         floats: &mut [f64],
         words: &mut [i32],
-    ) -> Result<(Labelled, Infostop), Refusal>
-        ensures { Promised self.now labels.old floats.old words.old
-            (fit_of self.now.config tracks.entry
+    ) -> Result<Labelled, Refusal>
+        ensures { Promised self.old labels.old floats.old words.old
+            (fit_of self.old.config tracks.entry
             (length labels.old) places (length floats.old) (length words.old))
             (traces_of tracks.entry)
-            (fit_from self.now result) labels.new floats.new words.new }
+            (handed_back result self.new) labels.new floats.new words.new }
     {
         settings::config::check_config(self.config)?;
         let room = Room {
@@ -60,16 +61,8 @@ impl Infostop {
             (traces_of tracks.entry)
             result labels.new floats.new words.new }
     {
-        let fitted = self.fit_tracks(tracks, labels, places, floats, words);
-        match fitted {
-            Ok((labelled, model)) => Fit {
-                answer: Ok(labelled),
-                model,
-            },
-            Err(e) => Fit {
-                answer: Err(e),
-                model: self,
-            },
-        }
+        let mut model = self;
+        let answer = model.fit_tracks(tracks, labels, places, floats, words);
+        Fit { answer, model }
     }
 }

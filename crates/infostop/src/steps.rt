@@ -10,7 +10,7 @@ ghost use Rattle.distance.specs.Steps.{points_of};
 ghost use Rattle.trace.specs.Given.{traces_of};
 ghost use Rattle.neighbors.specs.Places.{places};
 ghost use Rattle.checks.specs.Tracks.{check_tracks};
-ghost use Rattle.infostop.specs.Steps.{PlaceSlices, Space, places_found, Grouped, FixLabelsAre, EndsFromStays, EndsFromTracks};
+ghost use Rattle.infostop.specs.Steps.{PlaceSlices, Space, places_found, Grouped, FixLabelsAre, EndsFromStays, EndsFromTracks, handed_back};
 
 use crate::answer::Labelled;
 use crate::model::Infostop;
@@ -104,18 +104,18 @@ fn label_tracks(
     })
 }
 
-// What is labelled and the next model, from the medians and the stay numbers of k stays in the work slices: the places, 19, and the labels.
+// From the medians and the stay numbers of k stays in the work slices: the places, 19, the labels, and the model, where the fit is accepted.
 #[tactic(auto, using(crate::proofs::Placed::count_few))]
 fn from_medians(
-    model: &Infostop,
+    model: &mut Infostop,
     k: usize,
     cap: usize,
     floats: &mut [f64],
     words: &mut [i32],
     labels: &mut [i32],
-) -> Result<(Labelled, Infostop), Refusal>
+) -> Result<Labelled, Refusal>
     requires { (cap ≤ 512) × (Space (length labels.old) k cap (length floats.old) (length words.old)) }
-    ensures { EndsFromStays model.now k cap floats.old words.old labels.old result labels.new }
+    ensures { EndsFromStays model.old k cap floats.old words.old labels.old (handed_back result model.new) labels.new }
 {
     let found = find_places(medians(floats, labels.len(), k), cap)?;
     let p = found.count;
@@ -134,7 +134,7 @@ fn from_medians(
         words,
         labels,
     )?;
-    let next = Infostop {
+    *model = Infostop {
         config: model.config,
         xs: found.xs,
         ys: found.ys,
@@ -142,21 +142,21 @@ fn from_medians(
         count: p,
         fitted: true,
     };
-    Ok((labelled, next))
+    Ok(labelled)
 }
 
 // The fit of tracks that have passed the checks.
 #[tactic(auto, using(crate::proofs::Stays::floats_room, crate::proofs::Stays::words_room, crate::proofs::Stays::few_places, crate::proofs::Stays::agreed, crate::proofs::Stays::all_room, crate::proofs::Stays::no_stay, crate::proofs::Stays::some_stay, crate::proofs::Stays::found_there))]
 pub fn from_tracks(
-    model: &Infostop,
+    model: &mut Infostop,
     t: Tracks,
     labels: &mut [i32],
     places: usize,
     floats: &mut [f64],
     words: &mut [i32],
-) -> Result<(Labelled, Infostop), Refusal>
+) -> Result<Labelled, Refusal>
     requires { check_tracks t.xs.now t.ys.now t.times.now t.marks.now t.lens.now (length labels.old) places (length floats.old) (length words.old) ≡ Ok tt }
-    ensures { EndsFromTracks model.now (traces_of t.entry) labels.old places result labels.new }
+    ensures { EndsFromTracks model.old (traces_of t.entry) labels.old places (handed_back result model.new) labels.new }
 {
     let n = labels.len();
     let end = 4 * n;

@@ -1,16 +1,15 @@
 -- The start of a trial, each node in a group of its own, and the trial from its parts.
 use mathlib.Core.Path.{◌≡◌, sym, ap, ◌∙◌}
 use mathlib.Core.Bool.{true}
-use mathlib.Core.List.{List}
+use mathlib.Core.List.{List, [], ◌++◌}
 use Prim.Native.Nat.{ℕ, zero, suc, ◌+◌, ◌<◌, ◌≤◌}
 use native.Mathlib.Nat.{add-zero}
 use native.Mathlib.Omega.{arith}
 use borrow.Author.Tests.{eq-eqb, ne_eqb}
 use lib.ListN.{length, take}
-use lib.Seq.{length-take-le}
-use Rattle.std.proofs.lemmas.List.{get_or-take}
+use Rattle.std.proofs.lemmas.List.{get_or_append_left, take_at}
 use Rattle.lists.specs.Lists.{from, upto}
-use Rattle.lists.proofs.Upto.{length_upto, get_or_upto, is_upto}
+use Rattle.lists.proofs.Upto.{length_upto, get_or_upto}
 use Rattle.map_state.specs.Network.{Network}
 use Rattle.map_state.specs.MapState.{MapState, lowest}
 use Rattle.map_state.specs.Steps.{Firsts}
@@ -40,21 +39,23 @@ firsts_upto n v h =
     let i : v < n = omega (arith, length_upto n) in
     rw (get_or_upto n v i) (sym (lowest_upto n v i))
 
--- in the first n places of the code's arrays
-take_upto : (n k : ℕ) → n ≤ k → take n (upto k) ≡ upto n
-take_upto n k h =
-    is_upto (take n (upto k)) n (length-take-le n (upto k) (omega (arith, length_upto k))) (λ j l. get_or-take n (upto k) j 0 l ∙ get_or_upto k j (omega arith))
-
-pub firsts_filled : (n k : ℕ) (part first : List ℕ) → n ≤ k → part ≡ upto k → first ≡ upto k → Firsts (take n part) first
+-- a state that has no nodes yet
+pub no_firsts : (first : List ℕ) → Firsts [] first
 unfolding Firsts
-firsts_filled n k part first l p q v h =
-    let t = take_upto n k l in
-    let i : v < length (upto n) = rw (p, t) at h in
-    let j : v < n = omega (arith, length_upto n) in
-    rw (p, q, t) (get_or_upto k v (omega arith) ∙ sym (get_or_upto n v j) ∙ firsts_of_lem (upto n) (upto n) (firsts_upto n) v i)
+no_firsts first v h = absurd (omega arith)
 
-pub filled : (n k : ℕ) (part : List ℕ) → n ≤ k → part ≡ upto k → take n part ≡ upto n
-filled n k part l p = rw p (take_upto n k l)
+-- ---- in the first n places of the code's arrays, which are filled up to there
+
+pub filled : (n : ℕ) (part behind : List ℕ) → part ≡ upto n → take n (part ++ behind) ≡ upto n
+filled n part behind p = take_at part behind n (ap length p ∙ length_upto n) ∙ p
+
+pub firsts_filled : (n : ℕ) (part first behind beside : List ℕ) → part ≡ upto n → first ≡ upto n → Firsts (take n (part ++ behind)) (first ++ beside)
+unfolding Firsts
+firsts_filled n part first behind beside p q v h =
+    let t = filled n part behind p in
+    let i : v < length (upto n) = rw t at h in
+    let j : v < n = omega (arith, length_upto n) in
+    rw (t, get_or_append_left first beside 0 v (rw q i), q) (firsts_of_lem (upto n) (upto n) (firsts_upto n) v i)
 
 pub at_most_upto : (n : ℕ) → AtMost n (upto n)
 unfolding AtMost

@@ -9,12 +9,12 @@ use Rattle.scan.specs.Scan.{Answer, no_move, move}
 use Rattle.optimize.specs.Rounds.{Pass, Run, round, visits, started, optimize_partition}
 use Rattle.optimize.specs.declared.RunState.{RunState}
 
--- The pass and the trial that the code's state, flag and struct stand for.
+-- The pass and the trial that the code's state, with a flag or a struct beside it, stands for.
 abbrev pub pass_of : MapState → Bool → Pass
 pass_of s moved = record { state = s; moved = moved }
 
-abbrev pub run_of : RunState → Run
-run_of t = record { state = t.state; rng = t.rng; rounds = t.rounds; moved = t.moved }
+abbrev pub run_of : MapState → RunState → Run
+run_of s t = record { state = s; rng = t.rng; rounds = t.rounds; moved = t.moved }
 
 -- The order of visiting in the last of so many rounds; o where there is none.
 unfoldable pub last_visits_from : Network → ℕ → Bool → Run → List ℕ → List ℕ
@@ -26,9 +26,9 @@ last_visits_from net (suc k) true r o = let s = round net r in last_visits_from 
 unfoldable pub last_visits : Network → ℕ → List ℕ
 last_visits net x = last_visits_from net 100 true (started net x) []
 
--- How a trial from the generator's state x ends, with its answer t: it is the run, and `order` is the last round's.
-pub record TrialEnds (net : Network) (x : ℕ) (order : List ℕ) (t : RunState) : Type 0 where
-  pub run : run_of t ≡ optimize_partition net x
+-- How a trial from the generator's state x ends, in the state s and with its answer t: it is the run, and `order` is the last round's.
+pub record TrialEnds (net : Network) (x : ℕ) (s : MapState) (order : List ℕ) (t : RunState) : Type 0 where
+  pub run : run_of s t ≡ optimize_partition net x
   pub visited : order ≡ last_visits net x
 
 -- No group's internal number is above b.
@@ -49,9 +49,9 @@ abbrev pub PassFrom : Network → MapState → List ℕ → Type 0
 PassFrom net s order = (Fits net s) × (Below (length s.partition) order) × (length order ≤ 512) × (AtMost 900000 s.partition)
 
 -- What a round asks for: a state of the network, one place of the order for each node, at most 512, and internal numbers at most `most`.
-abbrev pub RoundFrom : ℕ → Network → RunState → List ℕ → Type 0
-RoundFrom most net r order = (Fits net r.state) × (length order ≡ length r.state.partition) × (length order ≤ 512) × (AtMost most r.state.partition)
+abbrev pub RoundFrom : ℕ → Network → MapState → List ℕ → Type 0
+RoundFrom most net s order = (Fits net s) × (length order ≡ length s.partition) × (length order ≤ 512) × (AtMost most s.partition)
 
--- r is the run `after`, and the order is the one given.
-abbrev pub RoundEnds : Run → List ℕ → RunState → List ℕ → Type 0
-RoundEnds after given r order = (run_of r ≡ after) × (order ≡ given)
+-- s and r are the run `after`, and the order is the one given.
+abbrev pub RoundEnds : Run → List ℕ → MapState → RunState → List ℕ → Type 0
+RoundEnds after given s r order = (run_of s r ≡ after) × (order ≡ given)

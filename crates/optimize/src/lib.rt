@@ -14,14 +14,20 @@ ghost use Rattle.optimize.specs.Steps.{pass_of, run_of, last_visits_from, Rises,
 use map_state::{MapState, Network};
 use scan::Scan;
 
-// A trial: its state, the generator's state, the rounds so far, and whether the last one moved something.
-// Kept as it is: no equality is derived of it, since it holds a `MapState`, which has none.
-#[derive(Drop)]
+// Of a trial, beside its map state: the generator's state, the rounds so far, and whether the last one moved something.
+#[derive(Clone, Copy, Debug, PartialEq, Eq)]
 pub struct RunState {
-    pub state: MapState,
     pub rng: u64,
     pub rounds: u32,
     pub moved: bool,
+}
+
+// A trial that has ended, and the map state that it leaves.
+// Kept as it is: no equality is derived of it, since it holds a `MapState`, which has none.
+#[derive(Drop)]
+pub struct Trial {
+    pub state: MapState,
+    pub run: RunState,
 }
 
 // How a pass asks a node.
@@ -88,62 +94,74 @@ fn pass<A: Ask>(net: &Network, s: &mut MapState, order: &[u32], start: bool) -> 
 // One round: an order of visiting, a pass of moves and an isolation pass.
 // Kept as it is: `net` and `order` go together, here and through `pass`, `run_rounds` and `optimize_partition`, and are parameters of their own, for the reason
 // at `keep` of infomap.
-fn round(net: &Network, r: &mut RunState, order: &mut [u32])
-    requires { (RoundFrom 800000 net.now r.old order.old) × (r.old.rounds < 1000) }
-    ensures { RoundEnds (round net.now (run_of r.old)) (visits net.now (run_of r.old)) r.new order.new }
+// Kept as it is: the map state stands beside a `RunState` and not in it: it has 12 KB, is lent from round to round and from trial to trial, and has no Copy.
+fn round(net: &Network, s: &mut MapState, r: &mut RunState, order: &mut [u32])
+    requires { (RoundFrom 800000 net.now s.old order.old) × (r.old.rounds < 1000) }
+    ensures { RoundEnds (round net.now (run_of s.old r.old)) (visits net.now (run_of s.old r.old)) s.new r.new order.new }
 {
     r.rng = rng::draw_order(order, r.rng);
-    let moved = pass::<Moves>(net, &mut r.state, order, false);
-    r.moved = pass::<Isolations>(net, &mut r.state, order, moved);
+    let moved = pass::<Moves>(net, s, order, false);
+    r.moved = pass::<Isolations>(net, s, order, moved);
     r.rounds += 1;
 }
 
 // Rounds, up to 100, until one moves nothing.
 #[tactic(auto, using(crate::proofs::Numbers::at_most_more, crate::proofs::Rounds::rounds_rest, crate::proofs::Rounds::visits_rest, crate::proofs::Rounds::rounds_end, crate::proofs::Rounds::visits_end))]
-fn run_rounds(net: &Network, r: &mut RunState, order: &mut [u32])
-    requires { (RoundFrom 512 net.now r.old order.old) × (r.old.rounds ≡ 0) }
-    ensures { RoundEnds (run_rounds net.now 100 true (run_of r.old)) (last_visits_from net.now 100 true (run_of r.old) order.old) r.new order.new }
+fn run_rounds(net: &Network, s: &mut MapState, r: &mut RunState, order: &mut [u32])
+    requires { (RoundFrom 512 net.now s.old order.old) × (r.old.rounds ≡ 0) }
+    ensures { RoundEnds (run_rounds net.now 100 true (run_of s.old r.old)) (last_visits_from net.now 100 true (run_of s.old r.old) order.old) s.new r.new order.new }
 {
     for _ in 0..100u32 {
-        round(net, r, order);
+        round(net, s, r, order);
         if !r.moved {
             return;
         }
     }
 }
 
-// Each of n nodes in a group of its own, before any sum is made.
-// Kept as it is: arrays of fixed size, since the project takes no heap (docs/DECISIONS.md, "No heap").
+// Each of n nodes in a group of its own, before any sum is made; what the state was before is not read.
 #[tactic(auto, using(rng::proofs::Counts::counted, crate::proofs::Start::firsts_filled, crate::proofs::Start::filled))]
-fn scattered(n: usize) -> MapState
+fn scatter(s: &mut MapState, n: usize)
     requires { n ≤ 512 }
-    ensures { result.partition ≡ upto n }
+    ensures { s.new.partition ≡ upto n }
 {
-    let mut nodes = [0; 512];
-    rng::fill(&mut nodes);
-    MapState {
-        n,
-        partition: nodes,
-        first: nodes,
-        exits: [0.0; 512],
-        strengths: [0.0; 512],
-        q: 0.0,
-    }
+    s.n = n;
+    rng::fill(&mut s.partition[..n]);
+    rng::fill(&mut s.first[..n]);
 }
 
-// A trial from the generator's state `rng`.
+// A trial from the generator's state `rng`, in a lent state: what that was before is not read.
 #[tactic(auto, using(crate::proofs::Start::at_most_filled, lists::proofs::Upto::length_upto), unfolding(codelength::specs::Codelength::from_partition))]
-pub fn optimize_partition(net: &Network, order: &mut [u32], rng: u64) -> RunState
+pub fn trial_in(net: &Network, s: &mut MapState, order: &mut [u32], rng: u64) -> RunState
     requires { length order.old ≡ length net.now.strength }
-    ensures { TrialEnds net.now rng order.new result }
+    ensures { TrialEnds net.now rng s.new order.new result }
 {
     let mut r = RunState {
-        state: scattered(net.strength().len()),
         rng,
         rounds: 0,
         moved: true,
     };
-    codelength::from_partition(net, &mut r.state);
-    run_rounds(net, &mut r, order);
+    scatter(s, net.strength().len());
+    codelength::from_partition(net, s);
+    run_rounds(net, s, &mut r, order);
     r
+}
+
+// A trial from the generator's state `rng`.
+// Kept as it is: arrays of fixed size, since the project takes no heap (docs/DECISIONS.md, "No heap").
+#[tactic(auto, using(crate::proofs::Start::no_firsts))]
+pub fn optimize_partition(net: &Network, order: &mut [u32], rng: u64) -> Trial
+    requires { length order.old ≡ length net.now.strength }
+    ensures { TrialEnds net.now rng result.state order.new result.run }
+{
+    let mut state = MapState {
+        n: 0,
+        partition: [0; 512],
+        first: [0; 512],
+        exits: [0.0; 512],
+        strengths: [0.0; 512],
+        q: 0.0,
+    };
+    let run = trial_in(net, &mut state, order, rng);
+    Trial { state, run }
 }

@@ -8,6 +8,6 @@ use Rattle.infomap.proofs.best_of_three.Given as goal
 
 abbrev pub invariant-loop : goal.invariant-loop
 invariant-loop l = record {
-  left : trials l.net (3 - l.counter) l.x (grouping_of l.best l.k) ≡ best_of_three l.net l.fn.rng;
+  left : trials l.net (2 - l.counter) l.x (grouping_of l.best l.k) ≡ best_of_three l.net l.fn.rng;
   long : length l.best ≡ length l.fn.best;
 }

@@ -33,8 +33,9 @@ pass-r-requires c =
     let r = c.args.r.now in
     let net = c.args.net.now in
     let o = c.draw_order-r in
-    let w = pass_of r.state false in
-    let e : length c.pass-moved.new.s.partition ≡ length r.state.partition = ap (λ (x : Pass). length x.state.partition) c.pass-moved.ensures ∙ pass_length scan net w _ in (
+    let s = c.args.s.now in
+    let w = pass_of s false in
+    let e : length c.pass-moved.new.s.partition ≡ length s.partition = ap (λ (x : Pass). length x.state.partition) c.pass-moved.ensures ∙ pass_length scan net w _ in (
       (
         c.requires.0.0 ∙ sym e,
         subst (λ (k : ℕ). Below k o.new.s) (c.requires.0.1 ∙ sym e) (drawn_below r.rng (length c.args.order.now) o.new.s o.result o.ensures),
@@ -46,7 +47,7 @@ pass-r-requires c =
 
 pub returns : goal.returns
 returns c =
-    let r = run_of c.args.r.now in
+    let r = run_of c.args.s.now c.args.r.now in
     let net = c.args.net.now in
     let k : length c.args.order.now ≡ length net.strength = c.requires.0.1 ∙ sym c.requires.0.0 in
     (round_is net r k c.draw_order-r.ensures c.pass-moved.ensures c.pass-r.ensures, visits_is net r k c.draw_order-r.ensures)

@@ -15,7 +15,7 @@ loop-preserved c =
     let net = c.args.net.now in
     let l = c.loop in
     let v = l.invariant in
-    let r = run_of l.r in
+    let r = run_of l.s l.r in
     let e = c.round.ensures.0 in
     let few : length net.strength ≤ 512 = omega (arith, c.requires.0.0, c.requires.0.1, c.requires.0.2) in record {
       left = rounds_on net l.counter r v.left (omega (arith, c.loop-test.true)) e c.if-not-r.false;
@@ -23,5 +23,5 @@ loop-preserved c =
       long = ap (λ (x : Run). length x.state.partition) e ∙ round_length net r ∙ v.long;
       room = c.round.auto.order ∙ v.room;
       count = omega (arith, run_counts net r e, v.count);
-      most = at_most_more (512 + 512 * l.counter + length net.strength) _ c.round.new.r.state.partition (omega (arith, few)) (run_at_most (512 + 512 * l.counter) net r e v.most);
+      most = at_most_more (512 + 512 * l.counter + length net.strength) _ c.round.new.s.partition (omega (arith, few)) (run_at_most (512 + 512 * l.counter) net r e v.most);
     }

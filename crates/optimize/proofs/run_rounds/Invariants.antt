@@ -9,10 +9,10 @@ use Rattle.optimize.proofs.run_rounds.Given as goal
 
 abbrev pub invariant-loop : goal.invariant-loop
 invariant-loop l = record {
-  left : run_rounds l.net (100 - l.counter) true (run_of l.r) ≡ run_rounds l.net 100 true (run_of l.fn.r);
-  visits : last_visits_from l.net (100 - l.counter) true (run_of l.r) l.order ≡ last_visits_from l.net 100 true (run_of l.fn.r) l.fn.order;
-  long : length l.r.state.partition ≡ length l.fn.r.state.partition;
+  left : run_rounds l.net (100 - l.counter) true (run_of l.s l.r) ≡ run_rounds l.net 100 true (run_of l.fn.s l.fn.r);
+  visits : last_visits_from l.net (100 - l.counter) true (run_of l.s l.r) l.order ≡ last_visits_from l.net 100 true (run_of l.fn.s l.fn.r) l.fn.order;
+  long : length l.s.partition ≡ length l.fn.s.partition;
   room : length l.order ≡ length l.fn.order;
   count : l.r.rounds ≡ l.counter;
-  most : AtMost (512 + 512 * l.counter) l.r.state.partition;
+  most : AtMost (512 + 512 * l.counter) l.s.partition;
 }
