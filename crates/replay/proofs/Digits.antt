@@ -1,9 +1,10 @@
--- Laws of the digits of a text: the bytes before them, how many they are, and what they make, in std's words.
-use Rattle.std.proofs.Common.{◌≡◌, ℕ, suc, ◌+◌, Bool, true, false, not, cond, List, [], ◌∷◌, length, ◌∙◌, refl}
+-- Laws of the digits of a text: the bytes before them in std's words, how many they are, and what they make.
+use Rattle.std.proofs.Common.{◌≡◌, ℕ, suc, ◌+◌, ◌<◌, ◌≤◌, Bool, true, false, not, cond, List, [], ◌∷◌, length, drop, ◌∙◌, refl, add-one, arith}
+use Rattle.std.proofs.Math.ListN.{get_or, drop_of_length-le}
+use Rattle.std.proofs.Math.Seq.{drop-cons}
 use Rattle.std.proofs.Math.Numerals.{one-add}
-use Rattle.std.specs.List.{prefix_len, take_while, fold}
+use Rattle.std.specs.List.{prefix_len, take_while}
 use Rattle.std.proofs.lemmas.List.Folds.{length-prefix_len}
-use Rattle.std.proofs.lemmas.List.Sums.{take_while-cons}
 use Rattle.std.specs.Char.{is_ascii_digit}
 use Rattle.replay.specs.Numbers.{is_digit, with_digit, before, digits, value}
 
@@ -20,23 +21,30 @@ before_len (b ∷ s) = rw (before_len s) (passed (is_digit b) (before s))
 pub before_is : (s : List ℕ) → length (take_while (λ b. not (is_ascii_digit b)) s) ≡ before s
 before_is s = length-prefix_len _ s ∙ before_len s
 
--- how many digits stand at the start, and the number that they make
-counted : (d : Bool) (n : ℕ) → cond d (1 + n) 0 ≡ cond d (suc n) 0
-counted true n = one-add n
-counted false n = refl
+-- what the digits make and how many they are, told from the place i on: where the byte there is a digit, and where not
+module _ (t : List ℕ) (i : ℕ) (h : i < length t) where
+  pub digits_on : is_ascii_digit (get_or t i 0) ≡ true → i + 1 + digits (drop (i + 1) t) ≡ i + digits (drop i t)
+  unfolding digits
+  digits_on e = rw (add-one i, drop-cons t i 0 h, e) (omega arith)
 
-digits_len : (s : List ℕ) → prefix_len (λ b. is_ascii_digit b) s ≡ digits s
-unfolding digits
-digits_len [] = refl
-digits_len (b ∷ s) = rw (digits_len s) (counted (is_digit b) (digits s))
+  pub digits_stop : is_ascii_digit (get_or t i 0) ≡ false → i + digits (drop i t) ≡ i
+  unfolding digits
+  digits_stop e = rw (drop-cons t i 0 h, e) (omega arith)
 
-pub digits_is : (s : List ℕ) → length (take_while (λ b. is_ascii_digit b) s) ≡ digits s
-digits_is s = length-prefix_len _ s ∙ digits_len s
+  pub value_on : is_ascii_digit (get_or t i 0) ≡ true → (n : ℕ) → value (with_digit n (get_or t i 0)) (drop (i + 1) t) ≡ value n (drop i t)
+  unfolding value
+  value_on e n = rw (add-one i, drop-cons t i 0 h, e)
 
-pub value_is : (n : ℕ) (s : List ℕ) → fold (λ n b. with_digit n b) n (take_while (λ b. is_ascii_digit b) s) ≡ value n s
-unfolding value
-value_is n [] = refl
-value_is n (b ∷ s) =
-    rw (take_while-cons (λ b. is_ascii_digit b) b s)
-    (elim (is_digit b) as (λ d. fold (λ n b. with_digit n b) n (cond d (b ∷ take_while (λ b. is_ascii_digit b) s) []) ≡ cond d (value (with_digit n b) s) n)
-    [ true ↦ value_is (with_digit n b) s | false ↦ refl ])
+  pub value_stop : is_ascii_digit (get_or t i 0) ≡ false → (n : ℕ) → value n (drop i t) ≡ n
+  unfolding value
+  value_stop e n = rw (drop-cons t i 0 h, e)
+
+-- and at the end of the text
+module _ (t : List ℕ) (i : ℕ) (h : length t ≤ i) where
+  pub digits_end : i + digits (drop i t) ≡ i
+  unfolding digits
+  digits_end = rw (drop_of_length-le t h) (omega arith)
+
+  pub value_end : (n : ℕ) → value n (drop i t) ≡ n
+  unfolding value
+  value_end n = rw (drop_of_length-le t h)

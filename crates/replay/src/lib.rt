@@ -5,12 +5,12 @@
 #![tactic(auto)]
 
 ghost use Rattle.std.specs.Prelude.{◌≡◌, ◌+◌, not, ◌≤◌, ◌<◌, length, take, drop, replicate, IfSome, IsNone};
-ghost use Rattle.std.specs.List.{take_while, fold, list_all};
+ghost use Rattle.std.specs.List.{take_while, list_all};
 ghost use Rattle.std.specs.Char.{is_ascii_digit};
 ghost use Rattle.std.specs.Float.{binary64};
 ghost use Rattle.std.specs.Float.Ieee.{of_bits, to_bits};
 ghost use Rattle.float.specs.Binary64.{same_bits};
-ghost use Rattle.replay.specs.Numbers.{with_digit, value_at, after, past, text_at};
+ghost use Rattle.replay.specs.Numbers.{with_digit, digits, value, value_at, after, past, text_at};
 
 use distance::{Point, Points};
 
@@ -35,12 +35,18 @@ pub struct Numbers<'a> {
     pub at: usize,
 }
 
+// A number below this has 18 digits or fewer, and takes one more in any case.
+const SHORT: u64 = 1_000_000_000_000_000_000;
+
 // n with the digit b after it, or 0 where that would take more than 64 bits.
 #[tactic(auto, unfolding(crate::specs::Numbers::with_digit))]
 fn with_digit(n: u64, b: u8) -> u64
     ensures { result ≡ with_digit n b }
 {
     let d = u64::from(b.saturating_sub(b'0'));
+    if n < SHORT {
+        return n * 10 + d;
+    }
     n.checked_mul(10)
         .and_then(|m| m.checked_add(d))
         .unwrap_or(0)
@@ -53,20 +59,32 @@ fn bytes_before(s: &[u8]) -> usize
     s.iter().take_while(|b| !b.is_ascii_digit()).count()
 }
 
-// How many digits stand in front.
-fn digits_in(s: &[u8]) -> usize
-    ensures { result ≡ length (take_while (λ b. is_ascii_digit b) s.now) }
-{
-    s.iter().take_while(|b| b.is_ascii_digit()).count()
+// A number as it is written: what its digits make, and how many they are. No digits make 0.
+#[derive(Clone, Copy, Debug, PartialEq, Eq)]
+struct Numeral {
+    value: u64,
+    digits: usize,
 }
 
-// The number that the digits in front make.
-fn number_in(s: &[u8]) -> u64
-    ensures { result ≡ fold (λ n b. with_digit n b) 0 (take_while (λ b. is_ascii_digit b) s.now) }
+// The number that stands in front.
+// Kept as it is: one loop for both, since most of a list is digits, and a fold and a count would go over them twice.
+#[tactic(auto, using(crate::proofs::Digits::digits_on, crate::proofs::Digits::digits_stop, crate::proofs::Digits::digits_end, crate::proofs::Digits::value_on, crate::proofs::Digits::value_stop, crate::proofs::Digits::value_end))]
+fn numeral_in(s: &[u8]) -> Numeral
+    ensures value { result.value ≡ value 0 s.now }
+    ensures digits { result.digits ≡ digits s.now }
+    ensures bound { result.digits ≤ length s.now }
 {
-    s.iter()
-        .take_while(|b| b.is_ascii_digit())
-        .fold(0, |n, &b| with_digit(n, b))
+    let mut value = 0;
+    for (digits, &b) in s.iter().enumerate() {
+        if !b.is_ascii_digit() {
+            return Numeral { value, digits };
+        }
+        value = with_digit(value, b);
+    }
+    Numeral {
+        value,
+        digits: s.len(),
+    }
 }
 
 // What stands from `at` on.
@@ -87,15 +105,15 @@ fn text_at(list: &[u8], at: usize, n: usize) -> Option<&[u8]>
 impl<'a> Numbers<'a> {
     // The next number: 0 at the end of the text. A digit with which it would take more than 64 bits sets it back to 0.
     // Kept as it is: 0 and no `Option` at the end of the text, since the lists are whole, and each of their readers would have to say what None is to it.
-    #[tactic(auto, using(crate::proofs::Digits::before_is, crate::proofs::Digits::digits_is, crate::proofs::Digits::value_is), unfolding(crate::specs::Numbers::skip))]
+    #[tactic(auto, using(crate::proofs::Digits::before_is), unfolding(crate::specs::Numbers::skip))]
     pub fn next_number(&mut self) -> u64
         ensures value { result ≡ value_at self.old.text.now self.old.at }
         ensures place { self.new ≡ past self.old 1 }
     {
         self.at += bytes_before(rest(self.text, self.at));
-        let digits = rest(self.text, self.at);
-        self.at += digits_in(digits);
-        number_in(digits)
+        let numeral = numeral_in(rest(self.text, self.at));
+        self.at += numeral.digits;
+        numeral.value
     }
 
     // The next number, as a length or an index.

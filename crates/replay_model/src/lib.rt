@@ -68,14 +68,18 @@ fn same_config(a: Config, b: Config) -> bool
 }
 
 // Whether two models agree, floats bit for bit.
+// Kept as it is: columns and labels have names of their own; where a field of a model is lent, the whole model is copied for it, 10 kB each.
 #[tactic(auto, unfolding(crate::specs::SameModel::same_model))]
 pub fn same_model(a: Infostop, b: Infostop) -> bool
     ensures { result ≡ same_model a b }
 {
+    let (ax, bx) = (a.xs, b.xs);
+    let (ay, by) = (a.ys, b.ys);
+    let (al, bl) = (a.labels, b.labels);
     same_config(a.config, b.config)
         && a.fitted == b.fitted
         && a.count == b.count
-        && same_floats(&a.xs, &b.xs)
-        && same_floats(&a.ys, &b.ys)
-        && a.labels == b.labels
+        && same_floats(&ax, &bx)
+        && same_floats(&ay, &by)
+        && al == bl
 }

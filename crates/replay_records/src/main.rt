@@ -56,6 +56,7 @@ fn print_taken(columns: &[f64; 16], marks: &[u8; 8]) {
 }
 
 // Fits and prints, with slices of the case's lengths. What they hold before is told at the head of the file.
+// Kept as it is: the answer and the model after the fit have names of their own; where `f.answer` is lent, the model beside it is copied.
 fn print_fit(c: Case, four: [FixRecord; 4], lens: &[u32])
     requires { (c.records ≤ 4) × (c.labels ≤ 8) × (c.columns ≤ 16) × (c.marks ≤ 8) × (c.floats ≤ 64) × (c.words ≤ 64) }
 {
@@ -76,9 +77,11 @@ fn print_fit(c: Case, four: [FixRecord; 4], lens: &[u32])
         &mut floats[..c.floats],
         &mut words[..c.words],
     );
-    replay_case::print_answer(&f.answer);
+    let told = f.answer;
+    let after = f.model;
+    replay_case::print_answer(&told);
     replay::print_flag(labels.iter().all(|&label| label == 7));
-    replay::print_flag(replay_model::same_model(before, f.model));
+    replay::print_flag(replay_model::same_model(before, after));
     replay::print_work(false, &floats, &words);
     print_taken(&columns, &marks);
 }

@@ -13,6 +13,7 @@ use replay_case::lens::Lens;
 use settings::config::Config;
 use settings::refusal::Refusal;
 use trace::Tracks;
+use trace::columns::Columns;
 
 // The lengths of the slices lent, `places` and the number of traces.
 #[derive(Clone, Copy, Debug, PartialEq, Eq)]
@@ -93,7 +94,8 @@ fn with_columns(list: &mut Numbers, config: Config, l: Lengths, lens: &[u32]) {
         return;
     }
     let n = list.next_size();
-    let read = replay_case::columns::read_columns::<65537>(list, n);
+    let mut read = Columns::<65537>::filled(0.0, 0);
+    replay_case::columns::fill_columns(list, n, &mut read);
     let tracks = Tracks {
         xs: &read.xs[..l.xs],
         ys: &read.ys[..l.ys],

@@ -9,6 +9,7 @@ ghost use Rattle.replay_stay.specs.Steps.{Room};
 use replay::Numbers;
 use settings::config::Config;
 use trace::Trace;
+use trace::columns::Columns;
 
 // Prints the answer for a trace, worked out in a slice of 1,600 numbers.
 fn print_stays(s: Config, t: Trace, work: &mut [f64], events: &mut [i32])
@@ -47,7 +48,8 @@ fn answer(list: &mut Numbers) {
     if 400 < n {
         return;
     }
-    let fixes = replay_case::columns::read_columns::<400>(list, n);
+    let mut fixes = Columns::<400>::filled(0.0, 0);
+    replay_case::columns::fill_columns(list, n, &mut fixes);
     let mut work = [0.0f64; 1600];
     let mut events = [0i32; 400];
     print_stays(settings, fixes.first(n), &mut work, &mut events[..n]);
