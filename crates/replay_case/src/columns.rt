@@ -8,7 +8,7 @@ use replay::Numbers;
 use trace::columns::Columns;
 
 // Reads n fixes into columns that are lent; for those past N there is no room.
-// Kept as it is: columns that are handed back, as by `read_columns`, are copied, for 65,537 fixes 1.6 MB; in these only the fixes are written.
+// Kept as it is: beside `read_columns`, whose columns are handed back by value and so are copied, 1.6 MB of them for 65,537 fixes. Here the caller's are written.
 pub fn fill_columns<const N: usize>(list: &mut Numbers, n: usize, columns: &mut Columns<N>)
     ensures read { FixesRead list.old.text.now list.old.at n
         columns.old.xs columns.old.ys columns.old.times columns.old.marks

@@ -68,7 +68,7 @@ fn same_config(a: Config, b: Config) -> bool
 }
 
 // Whether two models agree, floats bit for bit.
-// Kept as it is: columns and labels have names of their own; where a field of a model is lent, the whole model is copied for it, 10 kB each.
+// Kept as it is: columns and labels have names of their own; where a field of a model is lent, the whole model is copied for it, 10 KB each time.
 #[tactic(auto, unfolding(crate::specs::SameModel::same_model))]
 pub fn same_model(a: Infostop, b: Infostop) -> bool
     ensures { result ≡ same_model a b }
